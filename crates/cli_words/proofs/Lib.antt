@@ -1,0 +1,4 @@
+mod Wraps
+mod Conversions
+pub mod Spelled
+mod Folds
