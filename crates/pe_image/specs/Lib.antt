@@ -1,0 +1,4 @@
+pub mod Section
+pub mod Layout
+pub mod Checks
+pub mod Reading
