@@ -1,0 +1,4 @@
+pub mod Heaps
+pub mod Streams
+pub mod Headers
+pub mod Reading
