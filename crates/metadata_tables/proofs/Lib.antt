@@ -1,0 +1,3 @@
+pub mod SchemaLemmas
+pub mod LayoutLemmas
+pub mod ReadingLemmas

@@ -1,0 +1,170 @@
+//! How wide columns are, and where rows stand.
+ghost use Rattle.std.specs.Prelude.{◌≡◌, ℕ, ◌+◌, ◌-◌, ◌*◌, ◌^◌, ◌<◌, ◌≤◌, length, slice_index};
+ghost use Rattle.std.specs.List.{list_all, sum_by};
+ghost use Rattle.metadata_tables.specs.Columns.{tag_bits_of, tables_of};
+ghost use Rattle.metadata_tables.specs.Layout as spec;
+
+use crate::row::Row;
+use crate::schema::{CodedIndex, Column, columns};
+use cli_words::{u16_at, u32_at};
+
+/// How many bytes a number takes.
+#[derive(Clone, Copy, PartialEq, Eq, Debug)]
+pub enum Width {
+    One,
+    Two,
+    Four,
+}
+
+/// What a stream `#~` says of its tables.
+#[derive(Drop)]
+pub struct Layout {
+    /// The place after the counts, where the first row stands if there is one, in bytes from the
+    /// start of the file.
+    pub rows_at: usize,
+    /// The bits of value 1, 2 and 4 say that an index into `#Strings`, `#GUID` and `#Blob` has four bytes.
+    pub heap_sizes: u8,
+    /// How many rows each of the tables 00 to 2C has.
+    pub counts: [u32; 45],
+}
+
+impl Width {
+    pub fn len(self) -> usize
+        ensures value { result ≡ spec.len_of self }
+        ensures small { result ≤ 4 }
+    {
+        match self {
+            Width::One => 1,
+            Width::Two => 2,
+            Width::Four => 4,
+        }
+    }
+
+    /// The number from byte `at` on.
+    pub fn number(self, bytes: &[u8], at: usize) -> u32
+        requires { at + spec.len_of self ≤ length bytes.now }
+        ensures { result ≡ spec.number_of self bytes.now at }
+    {
+        match self {
+            Width::One => u32::from(bytes[at]),
+            Width::Two => u32::from(u16_at(bytes, at)),
+            Width::Four => u32_at(bytes, at),
+        }
+    }
+
+    fn of_index(fits: bool) -> Width
+        ensures { result ≡ spec.index_width fits }
+    {
+        if fits { Width::Two } else { Width::Four }
+    }
+}
+
+pub fn is_set(number: u64, bit: u8) -> bool
+    requires { bit < 64 }
+    ensures { result ≡ spec.is_set number bit }
+{
+    number & (1 << bit) != 0
+}
+
+impl Layout {
+    /// How many rows a table has.
+    pub fn count(&self, table: u8) -> u32
+        ensures value { result ≡ spec.count_of self.now table }
+        ensures known { 0 < result → table < 45 }
+    {
+        self.counts.get(usize::from(table)).copied().unwrap_or(0)
+    }
+
+    fn is_narrow(&self, tag_bits: u32, table: u8) -> bool
+        requires { tag_bits ≤ 5 }
+        ensures { result ≡ spec.is_narrow self.now tag_bits table }
+    {
+        self.count(table) < 1 << (16 - tag_bits)
+    }
+
+    fn are_narrow(&self, index: CodedIndex) -> bool
+        ensures { result
+            ≡ list_all (spec.is_narrow self.now (tag_bits_of index)) (tables_of index) }
+    {
+        let tag_bits = index.tag_bits();
+        index
+            .tables()
+            .iter()
+            .all(|table| self.is_narrow(tag_bits, *table))
+    }
+
+    fn heap_width(&self, bit: u8) -> Width
+        requires { bit < 64 }
+        ensures { result ≡ spec.heap_width self.now bit }
+    {
+        Width::of_index(!is_set(u64::from(self.heap_sizes), bit))
+    }
+
+    /// How wide a column is.
+    pub fn width(&self, column: Column) -> Width
+        ensures { result ≡ spec.width_of self.now column }
+    {
+        match column {
+            Column::U8 => Width::One,
+            Column::U16 => Width::Two,
+            Column::U32 => Width::Four,
+            Column::Strings => self.heap_width(0),
+            Column::Guid => self.heap_width(1),
+            Column::Blob => self.heap_width(2),
+            Column::Table(table) | Column::Run(table) => {
+                Width::of_index(self.is_narrow(0, table))
+            }
+            Column::Coded(index) => Width::of_index(self.are_narrow(index)),
+        }
+    }
+
+    /// How many bytes columns take.
+    pub fn size(&self, columns: &[Column]) -> usize
+        requires { length columns.now ≤ 9 }
+        ensures value { result ≡ sum_by (spec.size_of self.now) columns.now }
+        ensures small { result ≤ 36 }
+    {
+        let mut size = 0;
+        for column in columns {
+            size += self.width(*column).len();
+        }
+        size
+    }
+
+    /// How many bytes a row takes.
+    pub fn row_size(&self, table: u8) -> usize
+        ensures value { result ≡ spec.row_size_of self.now table }
+        ensures small { result ≤ 36 }
+    {
+        self.size(columns(table))
+    }
+
+    /// The row of a table that stands at `at`.
+    pub fn row(&self, bytes: &[u8], table: u8, at: usize) -> Row
+        requires { at + spec.row_size_of self.now table ≤ length bytes.now }
+        ensures { result ≡ spec.values_of bytes.now self.now table at }
+    {
+        let mut row = Row::new();
+        let mut place = at;
+        for column in columns(table) {
+            let width = self.width(*column);
+            row.push(width.number(bytes, place));
+            place += width.len();
+        }
+        row
+    }
+
+    /// The places of the tables 00 to 2C, and the place after the last.
+    pub fn starts(&self) -> [usize; 46]
+        requires { self.now.rows_at < 2 ^ 33 }
+        ensures { (k : ℕ) → k < 46 → slice_index result k ≡ spec.table_at self.now k }
+    {
+        let mut starts = [self.rows_at; 46];
+        for table in 0..45_u8 {
+            let size = self.count(table) as usize * self.row_size(table);
+            let index = usize::from(table);
+            starts[index + 1] = starts[index] + size;
+        }
+        starts
+    }
+}

@@ -1,0 +1,194 @@
+//! Streams written by hand from ECMA-335 II.22 and II.24.2.6.
+ghost use Rattle.std.specs.Prelude.{◌≤◌, length, IfOk};
+ghost use Rattle.metadata_tables.specs.Layout.{rows_end};
+
+use crate::{CodedIndex, Column, HeapSizes, TableFault, Tables, columns, read_tables};
+use cli_words::Span;
+use std::alloc::{AllocError, Global};
+use std::process::Abort;
+use std::test::Fail;
+
+/// Module 1 row, TypeRef 2, Constant 1, Assembly 1; heap indexes have two bytes. Two bytes stand
+/// before the stream.
+const SMALL: &[u8] = &[
+    0xEE, 0xEE, 0, 0, 0, 0, 2, 0, 0, 1, 0x03, 0x08, 0, 0, 1, 0, 0, 0, 0, 0xFA, 1, 0x33, 0, 0x16, 0,
+    0, 1, 0, 0, 0, 2, 0, 0, 0, 1, 0, 0, 0, 1, 0, 0, 0, // Module
+    0, 0, 1, 0, 1, 0, 0, 0, 0, 0, // TypeRef
+    6, 0, 0x0A, 0, 0x0F, 0, 0x0A, 0, 0xFF, 0xFF, 0x34, 0x12, // Constant
+    8, 0, 4, 0, 0x21, 0, // Assembly
+    4, 0x80, 0, 0, 1, 0, 2, 0, 3, 0, 4, 0, 1, 0, 0, 0, 7, 0, 0x0B, 0, 0, 0,
+];
+
+/// Module 1 row, Field 1; heap indexes have four bytes.
+const WIDE: &[u8] = &[
+    0, 0, 0, 0, 2, 0, 7, 1, 0x11, 0, 0, 0, 0, 0, 0, 0, 0, 0, 0, 0, 0, 0, 0, 0, 1, 0, 0, 0, 1, 0, 0,
+    0, // Module
+    0, 0, 1, 0, 0, 0, 2, 0, 0, 0, 3, 0, 0, 0, 4, 0, 0, 1, // Field
+    6, 0, 0x78, 0x56, 0x34, 0x12, 5, 0, 0, 0,
+];
+
+fn read(rt: &impl Abort, bytes: &[u8], at: usize, len: usize) -> Result<Tables, TableFault>
+    ensures { IfOk result (λ read. rows_end read ≤ length bytes.now) }
+{
+    assert!(rt; bytes.len() < 1_000_000);
+    assert!(rt; 24 <= len);
+    assert!(rt; len <= bytes.len());
+    assert!(rt; at <= bytes.len() - len);
+    let sizes = HeapSizes {
+        strings: 0,
+        guid: 0,
+        blob: 0,
+    };
+    read_tables(bytes, Span { at, len }, sizes)
+}
+
+fn row_is(rt: &impl Abort, tables: &Tables, bytes: &[u8], table: u8, n: u32, wanted: &[u32])
+    requires { rows_end tables.now ≤ length bytes.now }
+{
+    let row = tables.row(bytes, table, n);
+    assert!(rt; row.is_some());
+    if let Some(row) = row {
+        for k in 0..10_usize {
+            assert_eq!(rt;
+                row.column(k),
+                wanted.get(k).copied(),
+                "column {k} of {table}"
+            );
+        }
+    }
+}
+
+#[test]
+fn reads_rows(rt: HostRuntime) -> Result<(), Fail> {
+    let tables = read(&rt, SMALL, 2, 90)?;
+    for (table, count) in [
+        (0, 1),
+        (1, 2),
+        (2, 0),
+        (0x0B, 1),
+        (0x20, 1),
+        (0x2D, 0),
+        (255, 0),
+    ] {
+        assert_eq!(rt; tables.count(table), count);
+        assert!(rt; tables.row(SMALL, table, 0).is_none());
+        assert!(rt; tables.row(SMALL, table, count + 1).is_none());
+    }
+    let rows: [(u8, u32, &[u32]); 5] = [
+        (0, 1, &[0, 1, 1, 0, 0]),
+        (1, 1, &[6, 10, 15]),
+        (1, 2, &[10, 0xFFFF, 0x1234]),
+        (0x0B, 1, &[8, 0, 4, 0x21]),
+        (0x20, 1, &[0x8004, 1, 2, 3, 4, 1, 7, 11, 0]),
+    ];
+    for (table, n, wanted) in rows {
+        row_is(&rt, &tables, SMALL, table, n, wanted);
+    }
+    assert_eq!(rt; tables.column_at(1, 2, 2), Some(62));
+    assert_eq!(rt; tables.column_at(0x20, 1, 8), Some(90));
+    assert_eq!(rt; tables.column_at(1, 2, 3), None);
+    assert_eq!(rt; tables.column_at(1, 3, 0), None);
+    let tables = read(&rt, WIDE, 0, 60)?;
+    row_is(&rt, &tables, WIDE, 0, 1, &[0, 1, 2, 3, 0x0100_0004]);
+    row_is(&rt, &tables, WIDE, 4, 1, &[6, 0x1234_5678, 5]);
+    Ok(())
+}
+
+/// A stream of these tables and counts, with rows of zeros up to its length.
+fn stream(alloc: Global, valid: u64, counts: &[u32], len: usize) -> Result<Vec<u8>, AllocError> {
+    let mut bytes = [0, 0, 0, 0, 2, 0, 0, 1].to_vec(alloc)?;
+    bytes.extend_from_slice(&valid.to_le_bytes())?;
+    bytes.extend_from_slice(&[0; 8])?;
+    for count in counts {
+        bytes.extend_from_slice(&count.to_le_bytes())?;
+    }
+    bytes.resize(len, 0)?;
+    Ok(bytes)
+}
+
+#[test]
+fn refuses_streams(rt: HostRuntime) -> Result<(), Fail> {
+    let rows: [(u64, &[u32], usize, Option<u16>); 22] = [
+        (0, &[], 24, None),
+        (1, &[], 24, Some(9)),
+        (1, &[1], 27, Some(9)),
+        (1, &[0], 28, None),
+        (1, &[1], 37, Some(9)),
+        (1, &[1], 38, None),
+        (1, &[0x00FF_FFFF], 28, Some(9)),
+        (1, &[0x0100_0000], 28, Some(12)),
+        (1, &[0x0100_0000], 27, Some(9)),
+        (3, &[0, 0x0100_0000], 31, Some(9)),
+        (3, &[0, 0x0100_0000], 32, Some(12)),
+        (1 << 0x03, &[0], 28, Some(12)),
+        (1 << 0x05, &[0], 28, Some(12)),
+        (1 << 0x07, &[0], 28, Some(12)),
+        (1 << 0x13, &[0], 28, Some(12)),
+        (1 << 0x16, &[0], 28, Some(12)),
+        (1 << 0x1E, &[0], 28, Some(12)),
+        (1 << 0x1F, &[0], 28, Some(12)),
+        (1 << 0x2C, &[1], 32, None),
+        (1 << 0x2D, &[], 24, Some(12)),
+        (1 << 0x3F, &[0], 28, Some(12)),
+        ((1 << 0x3F) + 1, &[1], 28, Some(12)),
+    ];
+    for (valid, counts, len, wanted) in rows {
+        let bytes = stream(rt.alloc(), valid, counts, len)?;
+        let code = match read(&rt, bytes.as_slice(), 0, len) {
+            Ok(_) => None,
+            Err(TableFault::Bad { code, at }) => {
+                assert_eq!(rt; at, 0);
+                Some(code)
+            }
+        };
+        assert_eq!(rt; code, wanted, "tables {valid} in {len} bytes");
+    }
+    assert!(rt;
+        matches!(
+            read(&rt, SMALL, 2, 89),
+            Err(TableFault::Bad { code: 9, at: 2 })
+        )
+    );
+    Ok(())
+}
+
+/// Rows of MemberRef, ImplMap and ModuleRef, whose count decides how wide indexes into it are.
+#[test]
+fn widens_indexes(rt: HostRuntime) -> Result<(), Fail> {
+    for (count, len) in [
+        (8_191_u32, 36 + 6 + 8 + 2 * 8_191_usize),
+        (8_192, 36 + 8 + 8 + 2 * 8_192),
+        (65_535, 36 + 8 + 8 + 2 * 65_535),
+        (65_536, 36 + 8 + 10 + 2 * 65_536),
+    ] {
+        let valid = (1 << 0x0A) + (1 << 0x1A) + (1 << 0x1C);
+        let bytes = stream(rt.alloc(), valid, &[1, count, 1], len)?;
+        let tables = read(&rt, bytes.as_slice(), 0, len)?;
+        assert_eq!(rt; tables.count(0x1A), count);
+        assert!(rt; read(&rt, bytes.as_slice(), 0, len - 1).is_err());
+    }
+    Ok(())
+}
+
+#[test]
+fn names_targets(rt: HostRuntime) {
+    assert_eq!(rt;
+        columns(0x2B),
+        [Column::Coded(CodedIndex::MethodDefOrRef), Column::Blob].as_slice()
+    );
+    assert!(rt; columns(0x1F).is_empty());
+    let rows = [
+        (CodedIndex::TypeDefOrRef, 0x49, Some((0x01, 0x12))),
+        (CodedIndex::TypeDefOrRef, 0x4B, None),
+        (CodedIndex::HasCustomAttribute, 0x2A, Some((0x14, 1))),
+        (CodedIndex::HasCustomAttribute, 0x15, Some((0x2B, 0))),
+        (CodedIndex::HasCustomAttribute, 0x16, None),
+        (CodedIndex::CustomAttributeType, 0, None),
+        (CodedIndex::CustomAttributeType, 0x0A, Some((0x06, 1))),
+        (CodedIndex::CustomAttributeType, 0x0B, Some((0x0A, 1))),
+        (CodedIndex::CustomAttributeType, 0x0C, None),
+    ];
+    for (kind, index, wanted) in rows {
+        assert_eq!(rt; kind.target(index), wanted);
+    }
+}
