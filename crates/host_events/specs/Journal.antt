@@ -1,0 +1,37 @@
+-- Which journals a host can have, and what a thread has in one (own).
+use Rattle.std.specs.Prelude.{ℕ, ◌≡◌, ◌==◌, List, [], ◌∷◌, ◌++◌, map}
+use Rattle.std.specs.List.{filter}
+use Rattle.host_events.specs.declared.event.Event.{Event}
+use Rattle.host_events.specs.declared.event.Event.TheVariants.{New, Unload, Collect}
+use Rattle.host_events.specs.declared.reply.Reply.{Reply}
+use Rattle.host_events.specs.declared.journal.Entry.{Entry}
+use Rattle.host_events.specs.Operations.{open_operations}
+use Rattle.host_events.specs.Reply.{IsReply}
+
+-- each reply is the one that the entries before it determine
+abbrev pub IsLegal : List Entry → Type 0
+IsLegal journal =
+    (before : List Entry) (entry : Entry) (after : List Entry) →
+    journal ≡ before ++ entry ∷ after → IsReply before entry.event entry.reply
+
+-- the thread is within no operation
+abbrev pub HasNoOpen : List Entry → ℕ → Type 0
+HasNoOpen journal thread = open_operations journal thread ≡ []
+
+-- The thread may ask for the event after the journal: an event that is a command by itself comes where the
+-- thread is within no operation.
+abbrev pub Fits : List Entry → ℕ → Event → Type 0
+Fits journal thread (New name kind) = HasNoOpen journal thread
+Fits journal thread (Unload name) = HasNoOpen journal thread
+Fits journal thread Collect = HasNoOpen journal thread
+
+-- a legal journal, each entry of which came where it fits
+pub record IsProper (journal : List Entry) : Type 0 where
+  pub legal : IsLegal journal
+  pub fits : (before : List Entry) (entry : Entry) (after : List Entry) →
+      journal ≡ before ++ entry ∷ after → Fits before entry.thread entry.event
+
+-- the events of a thread with their replies, in their order
+abbrev pub own_entries : List Entry → ℕ → List (Event × Reply)
+own_entries journal thread =
+    map (λ entry. (entry.event, entry.reply)) (filter (λ entry. entry.thread == thread) journal)

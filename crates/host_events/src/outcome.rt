@@ -1,0 +1,34 @@
+ghost use Rattle.std.specs.Prelude.{◌≡◌};
+
+use crate::listed::Listed;
+use crate::reply::Reply;
+use cli_words::Units;
+
+/// What a command ended with.
+#[derive(Debug, Drop)]
+pub enum Outcome {
+    /// The reply to a command that is one event.
+    Replied(Reply),
+}
+
+/// Printed lines, in UTF-16 units.
+pub type Lines = Listed<Units>;
+
+/// How one command ended: the lines that it printed, and its outcome.
+#[derive(Debug, Drop)]
+pub struct CommandEnd {
+    pub lines: Lines,
+    pub outcome: Outcome,
+}
+
+/// How the commands of one thread ended, in their order.
+pub type End = Listed<CommandEnd>;
+
+impl End {
+    /// The ends of the commands, in their order.
+    pub fn commands(&self) -> &[CommandEnd]
+        ensures { result.now ≡ self.now }
+    {
+        self.items()
+    }
+}

@@ -1,0 +1,50 @@
+use crate::{
+    CommandEnd, End, Entry, Event, Journal, Lines, Listed, Numbers, Outcome, Reply, Text, one_reply,
+};
+use cli_words::Units;
+use std::test::Fail;
+use std::thread;
+
+#[test]
+fn lists_take_what_they_have_room_for(rt: HostRuntime) -> Result<(), Fail> {
+    let mut numbers = Numbers::new(rt.alloc(), 2)?;
+    numbers.push_reserved(7);
+    numbers.push_reserved(u32::MAX);
+    assert_eq!(rt; numbers.sealed().numbers(), [7, u32::MAX].as_slice());
+
+    let mut text = Text::new(rt.alloc(), 1)?;
+    text.push_reserved(0xd800);
+    assert_eq!(rt; text.units(), [0xd800].as_slice());
+    assert!(rt; Text::new(rt.alloc(), 0)?.units().is_empty());
+
+    let listed = Listed::of([1u8, 2].to_vec(rt.alloc())?);
+    assert_eq!(rt; listed.items(), [1, 2].as_slice());
+    assert_eq!(rt; listed.into_vec().len(), 2);
+    one_reply();
+    Ok(())
+}
+
+#[test]
+fn ends_and_journals_cross_threads(rt: HostRuntime) -> Result<(), Fail> {
+    let line = Units::of(rt.alloc(), [0x68, 0x69].to_vec(rt.alloc())?)?;
+    let end: End = Listed::of(vec![in rt.alloc();
+        CommandEnd {
+            lines: Lines::of(vec![in rt.alloc(); line]?),
+            outcome: Outcome::Replied(Reply::NoContext),
+        },
+    ]?);
+    let journal: Journal = Listed::of(vec![in rt.alloc();
+        Entry {
+            thread: 1,
+            event: Event::Collect,
+            reply: Reply::Freed(Numbers::new(rt.alloc(), 0)?),
+        },
+    ]?);
+    let (commands, entries) = thread::join(
+        &rt,
+        move || end.commands().len(),
+        move || journal.entries().len(),
+    );
+    assert_eq!(rt; (commands, entries), (1, 1));
+    Ok(())
+}
