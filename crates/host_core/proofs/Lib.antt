@@ -1,0 +1,4 @@
+pub mod Collected
+pub mod Keeps
+pub mod Scans
+pub mod Shares
