@@ -1,0 +1,9 @@
+pub mod HeadlineLemmas
+pub mod LineLemmas
+pub mod LoadLemmas
+pub mod ReportLemmas
+pub mod ReportQuoteLemmas
+pub mod RunLemmas
+pub mod ScriptTexts
+pub mod TurnLemmas
+pub mod WordsLemmas

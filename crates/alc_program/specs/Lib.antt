@@ -1,0 +1,10 @@
+pub mod Good
+pub mod Headline
+pub mod Line
+pub mod Load
+pub mod OneThread
+pub mod Report
+pub mod ReportQuote
+pub mod Run
+pub mod Script
+pub mod Words

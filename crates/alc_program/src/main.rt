@@ -1,0 +1,43 @@
+//! The program `alc`: runs scripts on a host, and reports what came of them.
+#![tactic(auto)]
+
+mod load;
+mod program;
+pub mod report;
+mod run;
+pub mod script;
+mod status;
+#[cfg(test)]
+mod tests;
+mod words;
+
+use plug_io::{DirFiles, OpenGate, StdSink};
+pub use program::{alc, alc_alone};
+pub use status::Status;
+use std::io::ErrorKind;
+use std::process::ExitCode;
+use std::{env, io};
+
+fn main(rt: HostRuntime) -> ExitCode {
+    let mut files = DirFiles { rt, faults: 0 };
+    let mut out = StdSink { rt, faults: 0 };
+    let status = match arguments(&rt) {
+        Ok(words) => alc(&rt, rt.alloc(), &words, &mut files, &mut out, &OpenGate),
+        Err(error) if error.kind() == ErrorKind::OutOfMemory => Status::OutOfMemory,
+        Err(_) => Status::Usage,
+    };
+    if status != Status::Done {
+        let _ = eprintln!(rt; "{status}");
+    }
+    ExitCode::from(status.exit())
+}
+
+/// The words that the program was called with, without its own name. A word that is not UTF-8 is an
+/// error.
+fn arguments(rt: &HostRuntime) -> io::Result<Vec<String>> {
+    let mut words = Vec::new(rt.alloc());
+    for word in env::args(rt)?.skip(1) {
+        words.push(word)?;
+    }
+    Ok(words)
+}

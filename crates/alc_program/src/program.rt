@@ -1,0 +1,113 @@
+//! The top call.
+ghost use Rattle.std.specs.Prelude.{◌≡◌, ℕ, ◌≤◌, List, length, map, IfOk, string_bytes};
+ghost use Rattle.alc_program.specs.Good.{IsGood, TakesTurns};
+ghost use Rattle.alc_program.specs.Headline.{Answers, RunCauses, StepsCauses, outside};
+ghost use Rattle.alc_program.specs.OneThread.{HasOneThread};
+
+use crate::load::load;
+use crate::report::{Line, report};
+use crate::run::{Run, run_script};
+use crate::script::Script;
+use crate::status::Status;
+use crate::words::steps_of;
+use plug_io::{Files, Gate, Sink};
+use std::alloc::{AllocError, Global};
+use std::sync::Wait;
+use std::thread::Threads;
+
+/// Does what the words ask for.
+///
+/// `steps F N` runs the script that the file F holds on one thread, in the turns of the schedule N
+/// (1 to 64 digits), and writes its report. No other words are known, and there are no options.
+///
+/// What each answer tells of the call is `Answers`: the report that was written, or why there is
+/// none.
+pub fn alc<R: Threads + Wait + Sync, F: Files, S: Sink, G: Gate + Sync>(
+    _rt: &R,
+    alloc: Global,
+    words: &[String],
+    files: &mut F,
+    out: &mut S,
+    _gate: &G,
+) -> Status
+    ensures headline { Answers (map string_bytes words.now)
+        (outside (F.held files.old) (F.faults files.old) (F.faults files.new)
+        (S.written out.old) (S.written out.new) (S.faults out.old) (S.faults out.new))
+        result }
+
+    // What stays, whatever the answer is.
+    ensures held { F.held files.new ≡ F.held files.old }
+    ensures read_faults { F.faults files.old ≤ F.faults files.new }
+    ensures write_faults { S.faults out.old ≤ S.faults out.new }
+{
+    alc_alone(alloc, words, files, out)
+}
+
+/// Does what the words ask for, as `alc` does, on the caller's thread alone. It waits for nobody,
+/// and returns.
+pub fn alc_alone<F: Files, S: Sink>(
+    alloc: Global,
+    words: &[String],
+    files: &mut F,
+    out: &mut S,
+) -> Status
+    ensures headline { Answers (map string_bytes words.now)
+        (outside (F.held files.old) (F.faults files.old) (F.faults files.new)
+        (S.written out.old) (S.written out.new) (S.faults out.old) (S.faults out.new))
+        result }
+
+    // What stays, whatever the answer is.
+    ensures held { F.held files.new ≡ F.held files.old }
+    ensures read_faults { F.faults files.old ≤ F.faults files.new }
+    ensures write_faults { S.faults out.old ≤ S.faults out.new }
+{
+    match steps_of(words) {
+        Some(asked) => steps(alloc, asked.file, files, out),
+        None => Status::Usage,
+    }
+}
+
+/// Runs the script that the file holds, and writes its report.
+fn steps<F: Files, S: Sink>(alloc: Global, file: &str, files: &mut F, out: &mut S) -> Status
+    ensures causes { (schedule : List ℕ) → StepsCauses
+        (outside (F.held files.old) (F.faults files.old) (F.faults files.new)
+        (S.written out.old) (S.written out.new) (S.faults out.old) (S.faults out.new))
+        file.now schedule result }
+    ensures held { F.held files.new ≡ F.held files.old }
+    ensures read_faults { F.faults files.old ≤ F.faults files.new }
+    ensures write_faults { S.faults out.old ≤ S.faults out.new }
+{
+    match load(alloc, files, file) {
+        Ok(script) => run_and_report(alloc, &script, out),
+        Err(status) => status,
+    }
+}
+
+/// Runs a script, and writes its report.
+fn run_and_report<S: Sink>(alloc: Global, script: &Script, out: &mut S) -> Status
+    requires { HasOneThread script.now }
+    ensures causes { (schedule : List ℕ) → RunCauses
+        (S.written out.old) (S.written out.new) (S.faults out.old) (S.faults out.new)
+        script.now schedule result }
+    ensures faults { S.faults out.old ≤ S.faults out.new }
+{
+    match ready(alloc, script) {
+        Ok((mut line, run)) => match report(&mut line, script, &run.ends, &run.journal, out) {
+            Ok(()) => Status::Done,
+            Err(_) => Status::WriteFault,
+        },
+        Err(_) => Status::OutOfMemory,
+    }
+}
+
+/// Takes the buffer of the report, and runs the script: all that may lack memory.
+fn ready(alloc: Global, script: &Script) -> Result<(Line, Run), AllocError>
+    requires { HasOneThread script.now }
+    ensures good { IfOk result (λ ready. IsGood script.now ready.1.journal ready.1.ends.items) }
+    ensures turns { IfOk result (λ ready. (schedule : List ℕ) →
+        TakesTurns (length script.now.threads) ready.1.journal schedule) }
+{
+    let line = Line::new(alloc)?;
+    let run = run_script(alloc, script)?;
+    Ok((line, run))
+}

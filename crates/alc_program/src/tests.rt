@@ -1,0 +1,3 @@
+mod reports;
+mod rows;
+mod scripts;
