@@ -1,10 +1,13 @@
 //! The report of a run: how each command of each thread ended, and the journal.
-ghost use Rattle.std.specs.Prelude.{◌≡◌, ℕ, ◌+◌, ◌≤◌, List, [], ◌∷◌, ◌++◌, length, codes, decimal, OnOk, OnErr};
+ghost use Rattle.std.specs.Prelude.{◌≡◌, ℕ, ◌+◌, ◌≤◌, List, [], ◌∷◌, ◌++◌, length, codes, decimal};
+ghost use Rattle.std.specs.Prelude.{OnOk, OnErr};
 ghost use Rattle.std.specs.List.{flat_map};
 ghost use Rattle.plug_io.specs.Faults.{HasRisen};
 ghost use Rattle.plug_io.specs.Sink.{HasAppended};
 ghost use Rattle.alc_program.specs.Line.{HasStopped, Puts};
-ghost use Rattle.alc_program.specs.Report.{numbered_texts, spaced, number_text, kind_text, event_text, reply_text, outcome_text, print_text, end_text, thread_text, entry_text, report_text};
+ghost use Rattle.alc_program.specs.Report.{numbered_texts, spaced, number_text, kind_text};
+ghost use Rattle.alc_program.specs.Report.{event_text, reply_text, outcome_text, print_text};
+ghost use Rattle.alc_program.specs.Report.{end_text, thread_text, entry_text, report_text};
 
 mod line;
 mod quote;
@@ -18,7 +21,7 @@ use plug_io::{Failed, Sink};
 use quote::put_quoted;
 
 /// Writes the report of a run: how the commands of each thread ended, the threads in their order,
-/// and the journal. It takes no memory.
+/// and the journal.
 ///
 /// `Failed` comes only where the sink counted a fault in this call. Of the text it has then taken a
 /// proper prefix.

@@ -5,7 +5,8 @@ ghost use Rattle.host_core.specs.Accepted.{HasRoom, room_for};
 ghost use Rattle.host_core.specs.Bounds.{bounds_of};
 ghost use Rattle.alc_program.specs.Good.{IsGood, TakesTurns};
 ghost use Rattle.alc_program.specs.Run.{event_of, kind_of};
-ghost use Rattle.alc_program.specs.OneThread.{is_new, new_count, share_for, HasOneThread, RunsAlone};
+ghost use Rattle.alc_program.specs.OneThread.{is_new, new_count, share_for, HasOneThread};
+ghost use Rattle.alc_program.specs.OneThread.{RunsAlone};
 
 use crate::script::{Command, CommandLine, Script};
 use cli_words::Units;

@@ -3,12 +3,14 @@
 //! A script is plain: the word `thread`, and then at most 1,024 commands, each after one line
 //! feed (LF). One LF more may stand at the end. A command is `new P`, `unload P` or `collect`,
 //! where P is a name and one space stands before it.
-ghost use Rattle.std.specs.Prelude.{ℕ, ◌≡◌, ◌≢◌, ◌-◌, ◌^◌, ◌<◌, ◌≤◌, ◌++◌, ◌∷◌, [], ◌⊎◌, List, All, length, map, ◌==◌, IfOk, IfErr, MatchOption, MatchResult};
+ghost use Rattle.std.specs.Prelude.{ℕ, ◌≡◌, ◌≢◌, ◌-◌, ◌^◌, ◌<◌, ◌≤◌, ◌++◌, ◌∷◌, [], ◌⊎◌, List, All};
+ghost use Rattle.std.specs.Prelude.{length, map, ◌==◌, IfOk, IfErr, MatchOption, MatchResult};
 ghost use Rattle.std.specs.List.{flat_map, slice_split};
 ghost use Rattle.cli_words.specs.Name.{IsName};
 ghost use Rattle.alc_program.specs.declared.script.Command.{Command};
 ghost use Rattle.alc_program.specs.declared.script.Script.{Script};
-ghost use Rattle.alc_program.specs.Script.{command_text, IsPlain, line_text, numbered, Accepts, NotBuiltOnlyIf};
+ghost use Rattle.alc_program.specs.Script.{command_text, IsPlain, line_text, numbered, Accepts};
+ghost use Rattle.alc_program.specs.Script.{NotBuiltOnlyIf};
 
 use cli_words::{Name, NameFault};
 use host_events::Listed;

@@ -1,4 +1,5 @@
 mod Wraps
 mod Conversions
 pub mod Spelled
+pub mod FirstFault
 mod Folds

@@ -1,7 +1,10 @@
 //! Words of 32 bits.
-ghost use Rattle.std.specs.Prelude.{◌≡◌, ◌+◌, ◌-◌, ◌*◌, ◌/◌, ◌%◌, ◌^◌, ◌<◌, ◌≤◌, ◌↔◌, pos, negsuc, ◌+ℤ◌, ◌-ℤ◌, ◌*ℤ◌, neg_ℤ, FitsSigned, int_div, int_rem, SomeIff, IfOk, IfErr};
+ghost use Rattle.std.specs.Prelude.{◌≡◌, ◌+◌, ◌-◌, ◌*◌, ◌/◌, ◌%◌, ◌^◌, ◌<◌, ◌≤◌, ◌↔◌, pos, negsuc};
+ghost use Rattle.std.specs.Prelude.{◌+ℤ◌, ◌-ℤ◌, ◌*ℤ◌, neg_ℤ, FitsSigned, int_div, int_rem, SomeIff};
+ghost use Rattle.std.specs.Prelude.{IfOk, IfErr};
 ghost use Rattle.std.specs.Result.{IsErrOf};
-ghost use Rattle.std.specs.Int.{w32, cast_signed, cast_unsigned, int_wrap, int_bit_and, int_bit_or, int_bit_xor, int_bit_not, int_div_euclid};
+ghost use Rattle.std.specs.Int.{w32, cast_signed, cast_unsigned, int_wrap, int_bit_and, int_bit_or};
+ghost use Rattle.std.specs.Int.{int_bit_xor, int_bit_not, int_div_euclid};
 ghost use Rattle.cli_words.specs.Word.{least_number, shift_factor};
 
 use crate::fault::DivFault;

@@ -36,7 +36,7 @@ pub struct Bounds {
 impl Bounds {
     ghost use Rattle.host_core.specs.Bounds.{bounds_of, CanSum};
 
-    /// The bounds that these shares make up. It takes no memory, and is `Ok`.
+    /// The bounds that these shares make up: always `Ok`.
     pub fn of(_alloc: Global, shares: Vec<Share>) -> Result<Bounds, AllocError>
         requires { CanSum shares.items }
         ensures { result ≡ Ok (bounds_of shares.items) }

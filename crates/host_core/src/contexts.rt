@@ -2,7 +2,9 @@
 ghost use Rattle.std.specs.Prelude.{◌≡◌, ◌+◌, ◌<◌, ◌^◌, ◌==◌};
 ghost use Rattle.std.specs.List.{filter, filter_map, list_any, last_or};
 ghost use Rattle.std.specs.Option.{option_to_list};
-ghost use Rattle.host_events.specs.Contexts.{made_context, freed_contexts, made_under, makes, makes_collectible, unloads, made_count, is_made, is_freed, is_live, is_unloaded, is_collectible, named};
+ghost use Rattle.host_events.specs.Contexts.{made_context, freed_contexts, made_under, makes};
+ghost use Rattle.host_events.specs.Contexts.{makes_collectible, unloads, made_count, is_made};
+ghost use Rattle.host_events.specs.Contexts.{is_freed, is_live, is_unloaded, is_collectible, named};
 
 use host_events::{ContextKind, Entry, Event, Reply};
 

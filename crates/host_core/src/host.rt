@@ -80,7 +80,7 @@ impl<C> HostCore<C> {
         }
     }
 
-    /// All entries, the oldest first. It takes no memory.
+    /// All entries, the oldest first.
     pub fn into_journal(self) -> Journal
         ensures journal { result ≡ self.journal }
         ensures allowed { IsAllowed self.bounds self.journal }

@@ -1,5 +1,6 @@
 //! The reply to an event.
-ghost use Rattle.std.specs.Prelude.{◌≡◌, ◌+◌, ◌<◌, ◌≤◌, ◌^◌, ◌&&◌, if◌then◌else◌, [], ◌∷◌, ◌++◌, length};
+ghost use Rattle.std.specs.Prelude.{◌≡◌, ◌+◌, ◌<◌, ◌≤◌, ◌^◌, ◌&&◌, if◌then◌else◌, [], ◌∷◌, ◌++◌};
+ghost use Rattle.std.specs.Prelude.{length};
 ghost use Rattle.host_events.specs.Contexts.{freed_contexts, is_live, is_unloaded, made_count};
 ghost use Rattle.host_events.specs.Journal.{IsLegal};
 ghost use Rattle.host_events.specs.Reply.{ListsUnkept, IsReply, reply_to_new, reply_to_unload};

@@ -17,7 +17,7 @@ impl<T> Model for Listed<T> {
 }
 
 impl<T> Listed<T> {
-    /// The elements of a `Vec`. It takes no memory.
+    /// The elements of a `Vec`.
     pub fn of(items: Vec<T>) -> Listed<T>
         ensures { result ≡ items.items }
     {
@@ -31,7 +31,7 @@ impl<T> Listed<T> {
         self.items.as_slice()
     }
 
-    /// The `Vec` that it was made of. It takes no memory.
+    /// The `Vec` that it was made of.
     pub fn into_vec(self) -> Vec<T>
         ensures { result.items ≡ self }
     {

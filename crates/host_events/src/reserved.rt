@@ -31,7 +31,7 @@ pub type Numbers = Reserved<u32>;
 pub type Text = Reserved<u16>;
 
 impl<T> Reserved<T> {
-    /// An empty list with this spare. With a spare of 0 it takes no memory, and is `Ok`.
+    /// An empty list with this spare. With a spare of 0 it is `Ok`.
     pub fn new(alloc: Global, spare: u32) -> Result<Reserved<T>, AllocError>
         ensures empty { IfOk result (λ made. made ≡ record { list = []; spare = spare }) }
         ensures free { spare ≡ 0 → IsOk result }

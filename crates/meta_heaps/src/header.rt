@@ -1,9 +1,11 @@
 //! The stream headers of the metadata. ECMA-335 II.24.2.2.
-ghost use Rattle.std.specs.Prelude.{◌≡◌, ◌+◌, ◌≤◌, ◌<◌, length, take, drop, not, nat_le, Some, None, IfSome, if◌then◌else◌};
+ghost use Rattle.std.specs.Prelude.{◌≡◌, ◌+◌, ◌≤◌, ◌<◌, length, take, drop, not, nat_le, Some};
+ghost use Rattle.std.specs.Prelude.{None, IfSome, if◌then◌else◌};
 ghost use Rattle.std.specs.List.{find};
 ghost use Rattle.std.specs.Option.{option_map};
 ghost use Rattle.std.specs.Str.{bytes_eq};
-ghost use Rattle.meta_heaps.specs.Streams.{headers, headers_at, stream_count, name_len, fits, named};
+ghost use Rattle.meta_heaps.specs.Streams.{headers, headers_at, stream_count, name_len, fits};
+ghost use Rattle.meta_heaps.specs.Streams.{named};
 ghost use Rattle.meta_heaps.specs.Headers.{IsSound, LiesWhole, header_of};
 
 use crate::heap::zero_after;

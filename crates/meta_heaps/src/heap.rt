@@ -1,6 +1,7 @@
 //! The entries of the heaps.
 ghost use Rattle.std.specs.Prelude.{◌≡◌, length, IfSome};
-ghost use Rattle.meta_heaps.specs.Heaps.{IsWithin, LiesIn, cut, zero_after, string_at, entry_at, blob_at, user_string_at, guid_at};
+ghost use Rattle.meta_heaps.specs.Heaps.{IsWithin, LiesIn, cut, zero_after, string_at, entry_at};
+ghost use Rattle.meta_heaps.specs.Heaps.{blob_at, user_string_at, guid_at};
 
 use cli_words::{Span, read_compressed};
 

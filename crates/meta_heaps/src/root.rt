@@ -1,10 +1,12 @@
 //! The metadata root. ECMA-335 II.24.2.1.
-ghost use Rattle.std.specs.Prelude.{◌≡◌, ◌+◌, ◌-◌, ◌≤◌, ◌<◌, ◌^◌, length, None, Some, Ok, Err, MatchResult, IfOk};
+ghost use Rattle.std.specs.Prelude.{◌≡◌, ◌+◌, ◌-◌, ◌≤◌, ◌<◌, ◌^◌, length, None, Some, Ok, Err};
+ghost use Rattle.std.specs.Prelude.{MatchResult, IfOk};
 ghost use Rattle.cli_words.specs.Check.{first_fault};
 ghost use Rattle.meta_heaps.specs.declared.root.RootFault.TheVariants.{Bad};
 ghost use Rattle.meta_heaps.specs.Heaps.{IsWithin, LiesIn};
 ghost use Rattle.meta_heaps.specs.Headers.{IsSound};
-ghost use Rattle.meta_heaps.specs.Reading.{root_checks, metadata_checks, root_of, root_in, span_of, fault_of};
+ghost use Rattle.meta_heaps.specs.Reading.{root_checks, metadata_checks, root_of, root_in, span_of};
+ghost use Rattle.meta_heaps.specs.Reading.{fault_of};
 
 use crate::header::{first_outside, has_root, named};
 use crate::heap::{Root, cut};

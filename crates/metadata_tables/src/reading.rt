@@ -1,5 +1,6 @@
 //! The counts at the head of a stream.
-ghost use Rattle.std.specs.Prelude.{◌≡◌, ◌+◌, ◌*◌, if◌then◌else◌, ◌<◌, ◌≤◌, length, slice_index, IsTrue};
+ghost use Rattle.std.specs.Prelude.{◌≡◌, ◌+◌, ◌*◌, if◌then◌else◌, ◌<◌, ◌≤◌, length, slice_index};
+ghost use Rattle.std.specs.Prelude.{IsTrue};
 ghost use Rattle.metadata_tables.specs.Layout.{is_set};
 ghost use Rattle.metadata_tables.specs.Reading as spec;
 

@@ -1,6 +1,7 @@
 //! The columns of the tables.
 ghost use Rattle.std.specs.Prelude.{◌≡◌, ◌^◌, ◌≤◌, [], length, map, slice_index_or};
-ghost use Rattle.metadata_tables.specs.Columns.{columns_of, tag_bits_of, first_tag_of, tables_of, table_of, target_of};
+ghost use Rattle.metadata_tables.specs.Columns.{columns_of, tag_bits_of, first_tag_of, tables_of};
+ghost use Rattle.metadata_tables.specs.Columns.{table_of, target_of};
 
 use CodedIndex::{
     CustomAttributeType, HasConstant, HasCustomAttribute, HasDeclSecurity, HasFieldMarshal,

@@ -1,7 +1,9 @@
 //! The tables of a stream.
-ghost use Rattle.std.specs.Prelude.{◌≡◌, ◌+◌, ◌-◌, ◌*◌, ◌^◌, ◌<◌, ◌≤◌, length, Some, None, IfOk, IfErr, IfSome};
+ghost use Rattle.std.specs.Prelude.{◌≡◌, ◌+◌, ◌-◌, ◌*◌, ◌^◌, ◌<◌, ◌≤◌, length, Some, None, IfOk};
+ghost use Rattle.std.specs.Prelude.{IfErr, IfSome};
 ghost use Rattle.cli_words.specs.Check.{first_fault};
-ghost use Rattle.metadata_tables.specs.Layout.{count_of, rows_end, row_of, row_size_of, row_place_of, place_of};
+ghost use Rattle.metadata_tables.specs.Layout.{count_of, rows_end, row_of, row_size_of};
+ghost use Rattle.metadata_tables.specs.Layout.{row_place_of, place_of};
 ghost use Rattle.metadata_tables.specs.Reading.{checks, layout_of, fault_of};
 
 use crate::fault::{BOUNDS, TABLE, TableFault};

@@ -1,6 +1,7 @@
 -- Checks in stages: the first stage that has a fault gives the answer of them all.
 use Rattle.std.proofs.Common.{◌≡◌, ℕ, List, [], ◌∷◌, ◌++◌, Option, Some, None, Result, Ok, Err, refl, sym, ap, subst, ◌∙◌}
 use Rattle.cli_words.specs.Check.{Fault, first_fault}
+use Rattle.cli_words.proofs.FirstFault.{Checks, first_fault-none, first_fault-some}
 use Rattle.cli_words.specs.declared.span.Span.{Span}
 use Rattle.pe_image.specs.declared.fault.PeFault.{PeFault}
 use Rattle.pe_image.specs.declared.fault.PeFault.TheVariants.{Bad}
@@ -9,19 +10,6 @@ use Rattle.pe_image.specs.Section.{section_count, sections_place}
 use Rattle.pe_image.specs.Layout.{signature_place, directory_place, cli_place, metadata, found}
 use Rattle.pe_image.specs.Checks.{header_checks, optional_checks, cli_checks, metadata_checks, pe_checks}
 use Rattle.pe_image.specs.Reading.{answer, pe_of}
-
-abbrev Checks : Type 0
-Checks = List (Option Fault)
-
-first_fault-none : (xs ys : Checks) → first_fault xs ≡ None → first_fault (xs ++ ys) ≡ first_fault ys
-first_fault-none [] ys e = refl
-first_fault-none (Some fault ∷ xs) ys e = absurd (cc)
-first_fault-none (None ∷ xs) ys e = first_fault-none xs ys e
-
-first_fault-some : (xs ys : Checks) (fault : Fault) → first_fault xs ≡ Some fault → first_fault (xs ++ ys) ≡ Some fault
-first_fault-some [] ys fault e = absurd (cc)
-first_fault-some (Some other ∷ xs) ys fault e = e
-first_fault-some (None ∷ xs) ys fault e = first_fault-some xs ys fault e
 
 -- what an answer says of its fault
 passed : {A : Type 0} (o : Option Fault) (v a : A) → Ok v ≡ answer o a → (o ≡ None) × (v ≡ a)

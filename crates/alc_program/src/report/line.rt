@@ -1,5 +1,6 @@
 // A text on its way to a sink, through a buffer that was taken before.
-ghost use Rattle.std.specs.Prelude.{◌≡◌, ℕ, ◌+◌, ◌-◌, ◌≤◌, ◌<◌, List, [], ◌++◌, length, false, OnOk, OnErr, vec_len, vec_capacity, decimal};
+ghost use Rattle.std.specs.Prelude.{◌≡◌, ℕ, ◌+◌, ◌-◌, ◌≤◌, ◌<◌, List, [], ◌++◌, length, false};
+ghost use Rattle.std.specs.Prelude.{OnOk, OnErr, vec_len, vec_capacity, decimal};
 ghost use Rattle.plug_io.specs.Faults.{HasRisen};
 ghost use Rattle.plug_io.specs.Sink.{HasAppended};
 ghost use Rattle.alc_program.specs.Line.{HasStopped, Puts};

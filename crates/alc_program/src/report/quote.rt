@@ -4,7 +4,8 @@ ghost use Rattle.std.specs.Char.{IsScalar};
 ghost use Rattle.std.specs.Fmt.{digit_glyph};
 ghost use Rattle.std.specs.Char.Utf16.{surrogate_pair_char};
 ghost use Rattle.alc_program.specs.Line.{Puts};
-ghost use Rattle.alc_program.specs.ReportQuote.{is_pair, is_surrogate, escape_text, unit_text, units_text, first_text, first_length, quoted};
+ghost use Rattle.alc_program.specs.ReportQuote.{is_pair, is_surrogate, escape_text, unit_text};
+ghost use Rattle.alc_program.specs.ReportQuote.{units_text, first_text, first_length, quoted};
 
 use super::line::{Line, put};
 use plug_io::Sink;
