@@ -1,0 +1,5 @@
+pub mod Choices
+pub mod Paths
+pub mod Runs
+pub mod Chains
+pub mod Heads

@@ -1,0 +1,18 @@
+//! Method bodies, their exception clauses and their instructions. ECMA-335 II.25.4, III.
+#![tactic(auto)]
+
+mod body;
+mod fault;
+mod instruction;
+mod offsets;
+mod opcode;
+mod section;
+
+pub use body::{Body, read_body};
+pub use fault::IlFault;
+pub use instruction::{Instr, Operand, next};
+pub use offsets::boundaries;
+pub use section::{Clause, Clauses};
+
+#[cfg(test)]
+mod tests;
