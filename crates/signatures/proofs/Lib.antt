@@ -1,0 +1,10 @@
+pub mod Names
+pub mod Loops
+pub mod Depth
+pub mod Closing
+pub mod Found
+pub mod Again
+pub mod Both
+pub mod Equal
+pub mod Splits
+pub mod Places

@@ -1,0 +1,9 @@
+pub mod Features
+pub mod Types
+pub mod Elements
+pub mod Grammar
+pub mod Signatures
+pub mod Keys
+pub mod SameKeys
+pub mod Substitution
+pub mod Spelling
