@@ -1,0 +1,12 @@
+pub mod Laws
+mod ZeroWithin
+mod RowLemmas
+mod PartLemmas
+mod ModuleLemmas
+mod PassLemmas
+mod ImageLemmas
+mod VersionLemmas
+mod EncloserLemmas
+mod TextEnds
+mod NameLemmas
+mod FindLemmas

@@ -1,0 +1,65 @@
+-- What stands in the columns of a row.
+use Rattle.std.proofs.Common.{◌≡◌, ℕ, zero, suc, ◌+◌, ◌-◌, ◌<◌, ◌==◌, true, false, Option, length, Some, None, refl, sym, ap, subst, ◌∙◌, zero-add, add-one, arith, List}
+use Rattle.std.proofs.lemmas.List.FromFn.{get_or-map-range_with_len}
+use Rattle.std.proofs.lemmas.Bool.Decides.{nat_tests}
+use Rattle.std.specs.List.{flat_map, range_with_len}
+use Rattle.metadata_tables.specs.declared.layout.Layout.{Layout}
+use Rattle.metadata_tables.specs.Columns.{columns_of}
+use Rattle.metadata_tables.specs.Layout.{value_of, row_of, row_at, has_row}
+use Rattle.std.specs.Option.{option_map}
+use Rattle.cli_words.specs.Check.{Fault, first_fault}
+use Rattle.cli_words.proofs.FirstFault.{Checks, none_next, some_next}
+use Rattle.meta_heaps.specs.declared.heap.Root.{Root}
+use Rattle.metadata_tables.specs.declared.schema.Column.{Column}
+use Rattle.metadata_tables.specs.Layout.{column_at}
+use Rattle.assembly_image.specs.Cells.{value_at, number_in, column_of}
+use Rattle.assembly_image.specs.Checks.{value_before, value_checks, column_checks}
+use Rattle.assembly_image.specs.FailedCheck.{fault_at}
+
+module _ (bytes : List ℕ) (layout : Layout) (table n k : ℕ) where
+  -- what is read of a row that is there
+  pub this_value : has_row layout table n ≡ true → k < length (columns_of table)
+      → number_in (row_of bytes layout table n) k ≡ value_at bytes layout table n k
+  this_value there within =
+      rw there (get_or-map-range_with_len (value_of bytes layout table (row_at layout table n)) 0 (length (columns_of table)) k k 0 within (zero-add k))
+
+-- and of the row before it
+pub before_value : (bytes : List ℕ) (layout : Layout) (table n k : ℕ) → has_row layout table n ≡ true → k < length (columns_of table)
+    → number_in (row_of bytes layout table (n - 1)) k ≡ value_before bytes layout table n k
+before_value bytes layout table zero k there within = absurd (cc)
+before_value bytes layout table (suc zero) k there within = refl
+before_value bytes layout table (suc (suc m)) k there within =
+    let lower : has_row layout table (suc (suc m) - 1) ≡ true = grind (arith, nat_tests) in
+    let later : (suc (suc m) == 1) ≡ false = grind (arith, nat_tests) in
+    this_value bytes layout table (suc (suc m) - 1) k lower within ∙ rw later refl
+
+module _ (bytes : List ℕ) (root : Root) (layout : Layout) (table n : ℕ) where
+  -- the checks of a column, by what was read for it
+  pub column_checked : (k before value : ℕ) (column : Column) (code : Option ℕ)
+      → column ≡ column_of table k → before ≡ value_before bytes layout table n k → value ≡ value_at bytes layout table n k
+      → ((at : ℕ) → first_fault (value_checks bytes root layout column before value at) ≡ option_map (fault_at at) code)
+      → first_fault (column_checks bytes root layout table n k) ≡ option_map (fault_at (column_at layout table n k)) code
+  column_checked k before value column code c b v told =
+      let at = column_at layout table n k in
+      ap first_fault (ap (λ x. value_checks bytes root layout x (value_before bytes layout table n k) (value_at bytes layout table n k) at) (sym c)
+      ∙ ap (λ x. value_checks bytes root layout column x (value_at bytes layout table n k) at) (sym b)
+      ∙ ap (λ x. value_checks bytes root layout column before x at) (sym v)) ∙ told at
+
+-- the column of the assembly's name is there
+pub name_column : 7 < length (columns_of 0x20)
+unfolding columns_of
+name_column = omega arith
+
+-- the checks of one more number pass, and one of them fails
+module _ (checks : ℕ → Checks) (first n m : ℕ) where
+  pub goes_on : first_fault (flat_map checks (range_with_len first n)) ≡ None → first_fault (checks m) ≡ None → m ≡ first + n
+      → first_fault (flat_map checks (range_with_len first (n + 1))) ≡ None
+  goes_on e f at =
+      subst (λ (k : ℕ). first_fault (flat_map checks (range_with_len first k)) ≡ None) (sym (add-one n))
+      (none_next checks first n e (subst (λ (k : ℕ). first_fault (checks k) ≡ None) at f))
+
+  pub stops : (more : ℕ) (fault : Fault) → first_fault (flat_map checks (range_with_len first n)) ≡ None
+      → first_fault (checks m) ≡ Some fault → m ≡ first + n → n < more
+      → first_fault (flat_map checks (range_with_len first more)) ≡ Some fault
+  stops more fault e f at within =
+      some_next checks first n more fault e (subst (λ (k : ℕ). first_fault (checks k) ≡ Some fault) at f) within
