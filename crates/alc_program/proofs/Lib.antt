@@ -1,8 +1,10 @@
 pub mod HeadlineLemmas
+pub mod InspectionLemmas
 pub mod LineLemmas
 pub mod LoadLemmas
+pub mod QuoteLemmas
+pub mod ReadingLemmas
 pub mod ReportLemmas
-pub mod ReportQuoteLemmas
 pub mod RunLemmas
 pub mod ScriptTexts
 pub mod TurnLemmas

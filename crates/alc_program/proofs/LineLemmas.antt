@@ -4,7 +4,7 @@ use Rattle.std.proofs.Math.Seq.{take-length}
 use Rattle.std.proofs.lemmas.List.{take-append-drop}
 use Rattle.plug_io.specs.Faults.{HasRisen}
 use Rattle.plug_io.specs.Sink.{HasAppended}
-use Rattle.alc_program.specs.declared.report.line.Line.{Line}
+use Rattle.alc_program.specs.declared.line.Line.{Line}
 use Rattle.alc_program.specs.Line.{HasStopped, IsUnsent, IsPut, Puts}
 
 -- nothing was appended
@@ -133,3 +133,9 @@ pub some_stopped : {line : Line} {written start : Option (List ℕ)} {faults cou
 some_stopped {line} {written} {start} {faults} {count} {text} failed put =
     let left = after_fault line.failed line.buffer.items put.unsent count faults failed put.waits in
     (record { sent = put.sent; unsent = put.unsent; whole = put.whole; some_unsent = left.0; appended = put.appended }, left.1)
+
+-- a text is put by another name
+pub puts_as : {S : Type 0} {written : S → Option (List ℕ)} {faults : S → ℕ} {old new : Line} {from to : S} {a b : List ℕ} →
+    a ≡ b → Puts written faults old from new to a → Puts written faults old from new to b
+puts_as {S} {written} {faults} {old} {new} {from} {to} {a} {b} same put =
+    subst (λ t. Puts written faults old from new to t) same put

@@ -1,7 +1,7 @@
 -- Lemmas on the texts of reports.
 use Rattle.std.proofs.Common.{◌≡◌, ℕ, ◌+◌, ◌<◌, List, Option, [], ◌∷◌, ◌++◌, length, take, get_or, sym, ◌∙◌, ap, append_assoc, append-nil, arith}
 use Rattle.std.proofs.lemmas.List.{take_more, length-take-le}
-use Rattle.alc_program.specs.declared.report.line.Line.{Line}
+use Rattle.alc_program.specs.declared.line.Line.{Line}
 use Rattle.alc_program.specs.Line.{Puts}
 use Rattle.alc_program.specs.Report.{numbered_texts}
 use Rattle.alc_program.proofs.LineLemmas.{puts_then}

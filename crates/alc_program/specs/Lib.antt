@@ -1,10 +1,13 @@
+pub mod Asked
 pub mod Good
 pub mod Headline
+pub mod Inspect
+pub mod Inspection
 pub mod Line
 pub mod Load
 pub mod OneThread
+pub mod Quote
 pub mod Report
-pub mod ReportQuote
 pub mod Run
 pub mod Script
 pub mod Words

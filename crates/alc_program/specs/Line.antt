@@ -2,7 +2,7 @@
 use Rattle.std.specs.Prelude.{◌≡◌, ℕ, ◌≤◌, ◌<◌, Bool, true, false, List, ◌++◌, length, Option}
 use Rattle.plug_io.specs.Faults.{HasRisen}
 use Rattle.plug_io.specs.Sink.{HasAppended}
-use Rattle.alc_program.specs.declared.report.line.Line.{Line}
+use Rattle.alc_program.specs.declared.line.Line.{Line}
 
 -- where what was written is told, it has a proper prefix of the text more
 pub record HasStopped (old new : Option (List ℕ)) (text : List ℕ) : Type 0 where

@@ -1,7 +1,7 @@
 -- The text of a report (own).
 use Rattle.std.specs.Prelude.{ℕ, ◌+◌, List, [], ◌∷◌, ◌++◌, length, codes, decimal}
 use Rattle.std.specs.List.{flat_map}
-use Rattle.alc_program.specs.ReportQuote.{quoted}
+use Rattle.alc_program.specs.Quote.{quoted}
 use Rattle.host_events.specs.declared.event.ContextKind.{ContextKind}
 use Rattle.host_events.specs.declared.event.ContextKind.TheVariants.{Collectible, Fixed as FixedKind}
 use Rattle.host_events.specs.declared.event.Event.{Event}

@@ -14,3 +14,7 @@ IsSchedule digits = IsTrue (is_schedule digits)
 pub record AsksSteps (words : List (List ℕ)) (file schedule : List ℕ) : Type 0 where
   pub spelled : words ≡ codes "steps" ∷ file ∷ schedule ∷ []
   pub digits : IsSchedule schedule
+
+-- `inspect F`: the file F is read as an image
+pub record AsksInspect (words : List (List ℕ)) (file : List ℕ) : Type 0 where
+  pub spelled : words ≡ codes "inspect" ∷ file ∷ []

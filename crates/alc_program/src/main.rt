@@ -1,8 +1,13 @@
-//! The program `alc`: runs scripts on a host, and reports what came of them.
+//! The program `alc`: runs scripts on a host and reports what came of them, and tells what an
+//! image of an assembly names.
 #![tactic(auto)]
 
+mod inspect;
+mod inspection;
+mod line;
 mod load;
 mod program;
+mod quote;
 pub mod report;
 mod run;
 pub mod script;

@@ -4,12 +4,14 @@ ghost use Rattle.alc_program.specs.Good.{IsGood, TakesTurns};
 ghost use Rattle.alc_program.specs.Headline.{Answers, RunCauses, StepsCauses, outside};
 ghost use Rattle.alc_program.specs.OneThread.{HasOneThread};
 
+use crate::inspect::inspect;
+use crate::line::Line;
 use crate::load::load;
-use crate::report::{Line, report};
+use crate::report::report;
 use crate::run::{Run, run_script};
 use crate::script::Script;
 use crate::status::Status;
-use crate::words::steps_of;
+use crate::words::{Asked, asked_of};
 use plug_io::{Files, Gate, Sink};
 use std::alloc::{AllocError, Global};
 use std::sync::Wait;
@@ -18,10 +20,12 @@ use std::thread::Threads;
 /// Does what the words ask for.
 ///
 /// `steps F N` runs the script that the file F holds on one thread, in the turns of the schedule N
-/// (1 to 64 digits), and writes its report. No other words are known, and there are no options.
+/// (1 to 64 digits), and writes its report. `inspect F` reads the file F as an image of an assembly
+/// and writes its inspection: what the image names, or why there is none, as where the file is
+/// absent or longer than 4,194,304 bytes. No other words are known, and there are no options.
 ///
-/// What each answer tells of the call is `Answers`: the report that was written, or why there is
-/// none.
+/// What each answer tells of the call is `Answers`: the report or the inspection that was written,
+/// or why there is none.
 pub fn alc<R: Threads + Wait + Sync, F: Files, S: Sink, G: Gate + Sync>(
     _rt: &R,
     alloc: Global,
@@ -61,8 +65,9 @@ pub fn alc_alone<F: Files, S: Sink>(
     ensures read_faults { F.faults files.old ≤ F.faults files.new }
     ensures write_faults { S.faults out.old ≤ S.faults out.new }
 {
-    match steps_of(words) {
-        Some(asked) => steps(alloc, asked.file, files, out),
+    match asked_of(words) {
+        Some(Asked::Steps(asked)) => steps(alloc, asked.file, files, out),
+        Some(Asked::Inspect { file }) => inspect(alloc, file, files, out),
         None => Status::Usage,
     }
 }

@@ -9,16 +9,13 @@ ghost use Rattle.alc_program.specs.Report.{numbered_texts, spaced, number_text, 
 ghost use Rattle.alc_program.specs.Report.{event_text, reply_text, outcome_text, print_text};
 ghost use Rattle.alc_program.specs.Report.{end_text, thread_text, entry_text, report_text};
 
-mod line;
-mod quote;
-
+pub use crate::line::Line;
+use crate::line::{flush, put, put_number};
+use crate::quote::put_quoted;
 use crate::script::Script;
 use cli_words::Units;
 use host_events::{CommandEnd, ContextKind, End, Entry, Event, Journal, Outcome, Reply};
-pub use line::Line;
-use line::{flush, put, put_number};
 use plug_io::{Failed, Sink};
-use quote::put_quoted;
 
 /// Writes the report of a run: how the commands of each thread ended, the threads in their order,
 /// and the journal.

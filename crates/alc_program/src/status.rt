@@ -40,7 +40,7 @@ impl fmt::Display for Status {
     fn fmt<W: fmt::Write>(&self, f: &mut fmt::Formatter<W>) -> fmt::Result {
         match self {
             Status::Done => write!(f, "done"),
-            Status::Usage => write!(f, "usage: alc steps F N"),
+            Status::Usage => write!(f, "usage: alc steps F N | inspect F"),
             Status::Script { line, cause } => write!(f, "script: line {line}: {cause}"),
             Status::ReadFault => write!(f, "read fault"),
             Status::WriteFault => write!(f, "write fault"),

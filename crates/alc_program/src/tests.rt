@@ -1,3 +1,4 @@
+mod inspect;
 mod reports;
 mod rows;
 mod scripts;

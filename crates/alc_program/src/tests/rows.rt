@@ -6,14 +6,18 @@ use std::alloc::{AllocError, Global};
 use std::test::Fail;
 
 /// Room for each report of these tests.
-const ROOM: usize = 4096;
+pub(super) const ROOM: usize = 4096;
 
-/// Files of which one, `life.script`, is held, where there are bytes for it. The reads in `fail_at`
+/// Files of which one, `F`, is held, where there are bytes for it. The reads in `fail_at`
 /// fail.
-fn files(alloc: Global, held: Option<&[u8]>, fail_at: &[u64]) -> Result<MemFiles, AllocError> {
+pub(super) fn files(
+    alloc: Global,
+    held: Option<&[u8]>,
+    fail_at: &[u64],
+) -> Result<MemFiles, AllocError> {
     let mut files = Vec::new(alloc);
     if let Some(bytes) = held {
-        let path = String::from_str(alloc, "life.script")?;
+        let path = String::from_str(alloc, "F")?;
         files.push((path, bytes.to_vec(alloc)?))?;
     }
     Ok(MemFiles {
@@ -25,7 +29,7 @@ fn files(alloc: Global, held: Option<&[u8]>, fail_at: &[u64]) -> Result<MemFiles
 }
 
 /// The words that spaces part.
-fn words(alloc: Global, line: &str) -> Result<Vec<String>, AllocError> {
+pub(super) fn words(alloc: Global, line: &str) -> Result<Vec<String>, AllocError> {
     let mut words = Vec::new(alloc);
     for word in line.split_whitespace() {
         words.push(String::from_str(alloc, word)?)?;
@@ -34,9 +38,9 @@ fn words(alloc: Global, line: &str) -> Result<Vec<String>, AllocError> {
 }
 
 /// What runs the script.
-const RUN: &str = "steps life.script 0";
+const RUN: &str = "steps F 0";
 
-/// The answer to `steps life.script 0` over this script, and what was written.
+/// The answer to `steps F 0` over this script, and what was written.
 fn steps(alloc: Global, script: &[u8]) -> Result<(Status, MemSink), AllocError> {
     let asked = words(alloc, RUN)?;
     let mut files = files(alloc, Some(script), &[])?;
@@ -110,19 +114,23 @@ fn knows_its_words(rt: HostRuntime) -> Result<(), Fail> {
     for (line, want) in [
         (RUN, Status::Done),
         (
-            "steps life.script 0123456789012345678901234567890123456789012345678901234567890123",
+            "steps F 0123456789012345678901234567890123456789012345678901234567890123",
             Status::Done,
         ),
         (
-            "steps life.script 01234567890123456789012345678901234567890123456789012345678901234",
+            "steps F 01234567890123456789012345678901234567890123456789012345678901234",
             Status::Usage,
         ),
-        ("steps life.script 1x", Status::Usage),
-        ("steps life.script", Status::Usage),
-        ("steps life.script 0 0", Status::Usage),
-        ("Steps life.script 0", Status::Usage),
+        ("steps F 1x", Status::Usage),
+        ("steps F", Status::Usage),
+        ("steps F 0 0", Status::Usage),
+        ("Steps F 0", Status::Usage),
+        ("inspect F", Status::Done),
+        ("inspect", Status::Usage),
+        ("inspect F F", Status::Usage),
+        ("Inspect F", Status::Usage),
         ("run", Status::Usage),
-        ("run life.script", Status::Usage),
+        ("run F", Status::Usage),
         ("", Status::Usage),
     ] {
         let asked = words(alloc, line)?;

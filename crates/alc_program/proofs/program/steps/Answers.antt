@@ -1,4 +1,3 @@
-use Rattle.std.proofs.Common.{arith, rules, ◌∙◌}
 use Rattle.alc_program.proofs.HeadlineLemmas.{run_steps}
 use Rattle.alc_program.proofs.program.steps.Goals as goal
 

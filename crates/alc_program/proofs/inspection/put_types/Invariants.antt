@@ -1,0 +1,10 @@
+use Rattle.std.specs.List.{flat_map, range_with_len}
+use Rattle.assembly_image.specs.Reading.{module_of}
+use Rattle.alc_program.specs.Inspection.{type_text}
+use Rattle.alc_program.specs.Line.{Puts}
+use Rattle.alc_program.proofs.inspection.put_types.Given as goal
+
+abbrev pub invariant-loop-before : goal.invariant-loop-before
+invariant-loop-before g l =
+    Puts g.S.Sink.written g.S.Sink.faults l.initial.line l.initial.out l.line l.out
+    (flat_map (type_text (module_of l.image)) (range_with_len 1 l.before))
