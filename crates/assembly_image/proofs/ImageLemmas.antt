@@ -186,3 +186,15 @@ good_string bytes found span e good =
 
 pub no_string : (bytes : List ℕ) (found : Option Span) → found ≡ None → ¬ (is_string bytes found ≡ true)
 no_string bytes found e good = (let same : is_string bytes None ≡ true = ap (is_string bytes) (sym e) ∙ good in cc)
+
+-- the string that is found by the number which was read in a column, where the reads are of the same bytes
+pub string_read : (bytes first second : List ℕ) (root : Root) (layout : Layout) (table n k : ℕ)
+    → first ≡ bytes → second ≡ bytes → (row : Option (List ℕ)) → row ≡ row_of first layout table n
+    → (index : ℕ) → index ≡ number_in row k → (found : Option Span) → found ≡ string_at second root.strings index
+    → has_row layout table n ≡ true → k < length (columns_of table)
+    → found ≡ string_at bytes root.strings (value_at bytes layout table n k)
+string_read bytes first second root layout table n k a b row r index i found f there within =
+    let here = i ∙ ap (λ (cells : Option (List ℕ)). number_in cells k) r
+    ∙ ap (λ (held : List ℕ). number_in (row_of held layout table n) k) a
+    ∙ this_value bytes layout table n k there within in
+    f ∙ ap (λ (held : List ℕ). string_at held root.strings index) b ∙ ap (string_at bytes root.strings) here

@@ -1,5 +1,5 @@
 -- What stands in the columns of a row.
-use Rattle.std.proofs.Common.{◌≡◌, ℕ, zero, suc, ◌+◌, ◌-◌, ◌<◌, ◌==◌, true, false, Option, length, Some, None, refl, sym, ap, subst, ◌∙◌, zero-add, add-one, arith, List}
+use Rattle.std.proofs.Common.{◌≡◌, ℕ, zero, suc, ◌+◌, ◌-◌, ◌<◌, ◌==◌, true, false, Option, length, Some, None, refl, sym, ap, subst, ◌∙◌, zero-add, add-one, arith, List, get_or}
 use Rattle.std.proofs.lemmas.List.FromFn.{get_or-map-range_with_len}
 use Rattle.std.proofs.lemmas.Bool.Decides.{nat_tests}
 use Rattle.std.specs.List.{flat_map, range_with_len}
@@ -11,6 +11,8 @@ use Rattle.cli_words.specs.Check.{Fault, first_fault}
 use Rattle.cli_words.proofs.FirstFault.{Checks, none_next, some_next}
 use Rattle.meta_heaps.specs.declared.heap.Root.{Root}
 use Rattle.metadata_tables.specs.declared.schema.Column.{Column}
+use Rattle.metadata_tables.specs.declared.schema.Column.TheVariants.{U8}
+use Rattle.std.proofs.lemmas.List.{get_or_default}
 use Rattle.metadata_tables.specs.Layout.{column_at}
 use Rattle.assembly_image.specs.Cells.{value_at, number_in, column_of}
 use Rattle.assembly_image.specs.Checks.{value_before, value_checks, column_checks}
@@ -44,6 +46,21 @@ module _ (bytes : List ℕ) (root : Root) (layout : Layout) (table n : ℕ) wher
       ap first_fault (ap (λ x. value_checks bytes root layout x (value_before bytes layout table n k) (value_at bytes layout table n k) at) (sym c)
       ∙ ap (λ x. value_checks bytes root layout column x (value_at bytes layout table n k) at) (sym b)
       ∙ ap (λ x. value_checks bytes root layout column before x at) (sym v)) ∙ told at
+
+-- the same by the rows and the columns that were read
+pub column_read : (bytes : List ℕ) (root : Root) (layout : Layout) (table n k : ℕ) → has_row layout table n ≡ true
+    → (columns : List Column) → columns ≡ columns_of table → k < length columns → (d : Column)
+    → (before row : Option (List ℕ)) → before ≡ row_of bytes layout table (n - 1) → row ≡ row_of bytes layout table n
+    → (least value : ℕ) → least ≡ number_in before k → value ≡ number_in row k → (code : Option ℕ)
+    → ((at : ℕ) → first_fault (value_checks bytes root layout (get_or columns k d) least value at) ≡ option_map (fault_at at) code)
+    → first_fault (column_checks bytes root layout table n k) ≡ option_map (fault_at (column_at layout table n k)) code
+column_read bytes root layout table n k there columns same within d before row b r least value l v code told =
+    let known : k < length (columns_of table) = subst (λ (cs : List Column). k < length cs) same within in
+    column_checked bytes root layout table n k _ _ _ code
+    (get_or_default columns k d U8 within ∙ ap (λ (cs : List Column). get_or cs k U8) same)
+    (l ∙ ap (λ (cells : Option (List ℕ)). number_in cells k) b ∙ before_value bytes layout table n k there known)
+    (v ∙ ap (λ (cells : Option (List ℕ)). number_in cells k) r ∙ this_value bytes layout table n k there known)
+    told
 
 -- the column of the assembly's name is there
 pub name_column : 7 < length (columns_of 0x20)

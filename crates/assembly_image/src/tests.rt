@@ -676,6 +676,9 @@ fn finds_types(rt: HostRuntime) -> Result<(), Fail> {
         let full = Units::from_utf8(rt.alloc(), full)?;
         assert_eq!(rt; image.find_type(&full), row);
     }
+    // a surrogate that stands alone is in no name of an image
+    let lone = Units::of(rt.alloc(), vec![in rt.alloc(); 0xD83D]?)?;
+    assert_eq!(rt; image.find_type(&lone), None);
     // no type is nested, and the last two have one name
     let changes: &[(usize, &[u8])] = &[(0x354, b"\x10"), (0x3EE, b"\0\0\0\0\0\0\0")];
     let image = read(&rt, rt.alloc(), image_with(&rt, rt.alloc(), changes)?)?;
@@ -736,6 +739,11 @@ fn finds_methods(rt: HostRuntime) -> Result<(), Fail> {
         let name = Units::from_utf8(rt.alloc(), name)?;
         assert_eq!(rt; image.find_method(row, from, &name), found, "{row} {from}");
     }
+    // the last method is the last type's
+    let changes: &[(usize, &[u8])] = &[(0x35C, b"\x04")];
+    let image = read(&rt, rt.alloc(), image_with(&rt, rt.alloc(), changes)?)?;
+    let name = Units::from_utf8(rt.alloc(), b"Get")?;
+    assert_eq!(rt; image.find_method(4, 0, &name), Some(4));
     Ok(())
 }
 
