@@ -47,6 +47,8 @@ pub fn read_image(alloc: Global, bytes: Arc<Vec<u8>>) -> Result<AssemblyImage, I
     ensures reads { IfOk result (λ image. Reads image (module_of image)) }
     ensures refused { (code at : ℕ) → result ≡ Err (Bad code at)
         → IsRefused (arc_value bytes).items code at }
+    ensures exact { (code at : ℕ) → IsRefused (arc_value bytes).items code at
+        → result ≡ Err (Bad code at) }
 {
     let parts = match read_parts(bytes.as_slice()) {
         Ok(parts) => parts,

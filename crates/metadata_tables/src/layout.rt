@@ -29,6 +29,7 @@ pub struct Layout {
 }
 
 impl Width {
+    /// How many bytes these are.
     pub fn len(self) -> usize
         ensures value { result ≡ spec.len_of self }
         ensures small { result ≤ 4 }
@@ -59,7 +60,7 @@ impl Width {
     }
 }
 
-pub fn is_set(number: u64, bit: u8) -> bool
+pub(crate) fn is_set(number: u64, bit: u8) -> bool
     requires { bit < 64 }
     ensures { result ≡ spec.is_set number bit }
 {

@@ -9,6 +9,7 @@ mod schema;
 mod tables;
 
 pub use fault::TableFault;
+pub use layout::{Layout, Width};
 pub use row::Row;
 pub use schema::{CodedIndex, Column, columns};
 pub use tables::{HeapSizes, Tables, read_tables};
