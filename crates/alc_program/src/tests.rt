@@ -1,4 +1,5 @@
 mod inspect;
 mod reports;
 mod rows;
+mod samples;
 mod scripts;

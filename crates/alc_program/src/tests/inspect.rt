@@ -146,7 +146,7 @@ fn pad(bytes: &mut Vec<u8>, end: usize) -> Result<(), AllocError> {
 }
 
 /// The answer to `inspect F` over this file, if there is one, and what was written.
-fn inspect(
+pub(super) fn inspect(
     alloc: Global,
     held: Option<&[u8]>,
     fail_at: &[u64],

@@ -1,0 +1,10 @@
+use Rattle.std.proofs.Common.{drop, map}
+use Rattle.image_maker.specs.Rows.{field_row}
+use Rattle.image_maker.specs.Written.{table_cells}
+use Rattle.image_maker.proofs.RowPuts.{Left}
+use Rattle.image_maker.proofs.rows.put_fields_of.Given as goal
+
+abbrev pub invariant-loop-row : goal.invariant-loop-row
+invariant-loop-row l =
+    Left (table_cells 0x04 (map field_row l.fields)) (table_cells 0x04 (map field_row (drop l.row-index l.fields)))
+    l.fn.writer l.writer

@@ -1,0 +1,13 @@
+pub mod Rows
+pub mod Sound
+pub mod Size
+pub mod Made
+pub mod Written
+pub mod File
+pub mod Whole
+pub mod Field
+pub mod Tally
+pub mod Units
+pub mod Params
+pub mod MethodsPut
+pub mod Samples
