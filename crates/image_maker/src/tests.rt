@@ -1,1 +1,3 @@
-mod samples;
+mod limits;
+mod made;
+mod parts;
