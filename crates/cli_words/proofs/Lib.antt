@@ -2,4 +2,5 @@ mod Wraps
 mod Conversions
 pub mod Spelled
 pub mod FirstFault
+pub mod Characters
 mod Folds

@@ -17,7 +17,7 @@ SpellsInFour bytes n =
     (a : ℕ) × (b : ℕ) × (c : ℕ) × (d : ℕ) × (a < 0x20) × (b < 0x100) × (c < 0x100) × (d < 0x100)
     × (bytes ≡ (0xC0 + a) ∷ b ∷ c ∷ d ∷ []) × (n ≡ ((a * 0x100 + b) * 0x100 + c) * 0x100 + d)
 
--- the bytes are a spelling of n, which need not be its shortest
+-- the bytes are a spelling of n; that it need not be its shortest is own
 abbrev pub Spells : List ℕ → ℕ → Type 0
 Spells bytes n = SpellsInOne bytes n ⊎ (SpellsInTwo bytes n ⊎ SpellsInFour bytes n)
 

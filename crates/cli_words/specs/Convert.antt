@@ -5,7 +5,7 @@ use mir.Val.{bits}
 use Rattle.cli_words.specs.declared.conversion.NumKind.{NumKind}
 use Rattle.cli_words.specs.declared.conversion.NumKind.TheVariants.{I1, I2, I4, I8, U1, U2, U4, U8, I, U}
 
--- how wide a kind of number is: a native one has 64 bits
+-- how wide a kind of number is; that a native one has 64 bits is own
 abbrev pub width : NumKind → Width
 width I1 = w8
 width I2 = w16
@@ -31,9 +31,18 @@ is_signed U8 = false
 is_signed I = true
 is_signed U = false
 
--- the number that the 64 bits of a value stand for
-abbrev pub source_number : ℤ → Bool → ℤ
-source_number value from_unsigned = if from_unsigned then pos (cast_unsigned w64 value) else value
+-- the number for which a word of this width stands, where its bits are read as unsigned or as signed; z is
+-- the number for which they stand when read as signed
+abbrev pub widened : Width → Bool → ℤ → ℤ
+widened w true z = pos (cast_unsigned w z)
+widened w false z = z
+
+-- conv reads its source as unsigned where it goes to u4, u8 or u, and else as signed (III.3.27)
+abbrev pub reads_unsigned : NumKind → Bool
+reads_unsigned U4 = true
+reads_unsigned U8 = true
+reads_unsigned U = true
+reads_unsigned _ = false
 
 -- z fits the width, as a signed number where the flag is set
 abbrev pub FitsBy : Bool → Width → ℤ → Type 0

@@ -2,6 +2,8 @@ pub mod Name
 pub mod Word
 pub mod Convert
 pub mod Compressed
+pub mod Span
 pub mod Check
 pub mod Number
 pub mod Text
+pub mod Character

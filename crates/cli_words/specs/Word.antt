@@ -9,6 +9,6 @@ use mir.Val.{bits, hbits}
 abbrev pub least_number : Width → ℤ
 least_number w = neg_ℤ (pos (2 ^ hbits w))
 
--- the factor of a shift, whose count is taken modulo the width
+-- the factor of a shift; that its count is taken modulo the width is own
 abbrev pub shift_factor : Width → ℕ → ℕ
 shift_factor w count = 2 ^ (count % bits w)

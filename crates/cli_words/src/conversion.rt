@@ -1,7 +1,7 @@
 //! Conversions of numbers.
 ghost use Rattle.std.specs.Prelude.{◌≡◌, ◌^◌, ◌↔◌, pos, IsTrue, SomeIff};
 ghost use Rattle.std.specs.Int.{w8, w16, w32, w64, int_wrap, int_rem_euclid};
-ghost use Rattle.cli_words.specs.Convert.{Holds, low_bits, source_number};
+ghost use Rattle.cli_words.specs.Convert.{Holds, low_bits, widened, reads_unsigned};
 
 /// A kind of number: signed or unsigned, with its bytes; `I` and `U` are native and have 8.
 /// ECMA-335 III.1.1.
@@ -19,12 +19,21 @@ pub enum NumKind {
     U,
 }
 
+impl NumKind {
+    /// Whether conv to this kind reads its source as unsigned, which is so for u4, u8 and u: an
+    /// int32 is then widened with zeros, and else with its sign. ECMA-335 III.3.27.
+    pub fn reads_unsigned(self) -> bool
+        ensures { result ≡ reads_unsigned self }
+    {
+        matches!(self, NumKind::U4 | NumKind::U8 | NumKind::U)
+    }
+}
+
 /// The number of the kind that has the lowest bits of the source, as 64 bits: a signed number is
-/// widened with its sign, an unsigned one with zeros. The source is the number for which the 64
-/// bits of `value` stand, read as unsigned where `from_unsigned` says so. A source of 32 bits comes
-/// widened to 64: with zeros where it is read as unsigned, else with its sign. ECMA-335 III.3.27.
-pub fn convert(value: i64, from_unsigned: bool, to: NumKind) -> i64
-    ensures { result ≡ int_wrap w64 (low_bits to (source_number value from_unsigned)) }
+/// widened with its sign, an unsigned one with zeros. A source of 32 bits comes widened to 64;
+/// `Word32::converted` does both. ECMA-335 III.3.27.
+pub fn convert(value: i64, to: NumKind) -> i64
+    ensures { result ≡ int_wrap w64 (low_bits to value) }
 {
     match to {
         NumKind::I1 => low_1(value).cast_signed() as i64,
@@ -39,10 +48,10 @@ pub fn convert(value: i64, from_unsigned: bool, to: NumKind) -> i64
 
 /// The source as a number of the kind, in the same 64 bits; `None` exactly where the kind has no
 /// such number. The source is the number for which the 64 bits of `value` stand, read as unsigned
-/// where `from_unsigned` says so. A source of 32 bits comes widened to 64: with zeros where it is
-/// read as unsigned, else with its sign. ECMA-335 III.3.28, III.3.29.
+/// where `from_unsigned` says so. A source of 32 bits comes widened to 64;
+/// `Word32::converted_ovf` does both. ECMA-335 III.3.28, III.3.29.
 pub fn convert_ovf(value: i64, from_unsigned: bool, to: NumKind) -> Option<i64>
-    ensures { SomeIff result (Holds to (source_number value from_unsigned)) value }
+    ensures { SomeIff result (Holds to (widened w64 from_unsigned value)) value }
 {
     let holds = if from_unsigned && value < 0 {
         matches!(to, NumKind::U8 | NumKind::U)

@@ -4,7 +4,8 @@ ghost use Rattle.std.specs.Char.{to_ascii_lowercase};
 ghost use Rattle.std.specs.Result.{IsErrOf};
 ghost use Rattle.std.specs.Str.{IsUtf8};
 ghost use Rattle.std.specs.Str.Lossy.{utf8_valid_len};
-ghost use Rattle.cli_words.specs.Text.{units_of, bytes_of, ascii_lowercase, are_alike};
+ghost use Rattle.cli_words.specs.Text.{AreUnits, units_in, units_of, bytes_of};
+ghost use Rattle.cli_words.specs.Text.{ascii_lowercase, are_alike};
 
 use std::alloc::{AllocError, Global};
 use std::marker::Model;
@@ -21,10 +22,13 @@ pub struct Units {
 impl Model for Units {
     ghost use Rattle.std.specs.Prelude.{List, ℕ};
     ghost use Rattle.std.specs.Arc.{arc_value};
+    ghost use Rattle.cli_words.specs.Text.{AreUnits};
 
     ghost Value = { List ℕ };
 
     ghost view = { λ text. (arc_value text.shared).items };
+
+    ghost invariant = { λ text. AreUnits (arc_value text.shared).items };
 }
 
 /// Why bytes are no text.
@@ -58,6 +62,15 @@ impl Units {
         Units::of(alloc, units).map_err(|_| TextFault::OutOfMemory)
     }
 
+    /// The text whose units stand in the bytes, two bytes each and the lower byte first. A last odd
+    /// byte is passed over. ECMA-335 II.24.2.4.
+    pub fn from_utf16_le(alloc: Global, bytes: &[u8]) -> Result<Units, AllocError>
+        ensures { IfOk result (λ text. text ≡ units_in bytes.now) }
+    {
+        let units = units_in(alloc, bytes)?;
+        Units::of(alloc, units)
+    }
+
     /// The text in UTF-8, with U+FFFD for each surrogate that is in no pair.
     pub fn to_utf8(&self, alloc: Global) -> Result<Vec<u8>, AllocError>
         ensures { IfOk result (λ bytes. bytes.items ≡ bytes_of self.now) }
@@ -84,7 +97,8 @@ impl Units {
 
     /// The units of the text.
     pub fn units(&self) -> &[u16]
-        ensures { result.now ≡ self.now }
+        ensures units { result.now ≡ self.now }
+        ensures range { AreUnits self.now }
     {
         self.shared.as_slice()
     }
@@ -124,6 +138,18 @@ impl Eq for Units {
     ghost use Rattle.std.specs.Cmp.Lexicographic.{lists_equiv};
 
     ghost laws = { lists_equiv nat_eq_equiv };
+}
+
+fn units_in(alloc: Global, bytes: &[u8]) -> Result<Vec<u16>, AllocError>
+    ensures { IfOk result (λ units. units.items ≡ units_in bytes.now) }
+{
+    let mut units = Vec::with_capacity(alloc, bytes.len() / 2)?;
+    let mut rest = bytes;
+    while let [low, high, after @ ..] = rest {
+        units.push(u16::from_le_bytes([*low, *high]))?;
+        rest = after;
+    }
+    Ok(units)
 }
 
 fn encoded(alloc: Global, text: &str) -> Result<Vec<u16>, AllocError>

@@ -6,7 +6,9 @@ ghost use Rattle.std.specs.Result.{IsErrOf};
 ghost use Rattle.std.specs.Int.{w64, cast_signed, cast_unsigned, int_wrap, int_bit_and, int_bit_or};
 ghost use Rattle.std.specs.Int.{int_bit_xor, int_bit_not, int_div_euclid};
 ghost use Rattle.cli_words.specs.Word.{least_number, shift_factor};
+ghost use Rattle.cli_words.specs.Convert.{Holds, low_bits, widened, reads_unsigned};
 
+use crate::conversion::{NumKind, convert, convert_ovf};
 use crate::fault::DivFault;
 
 /// A word of 64 bits, by the number that it stands for when read as signed. Where a result fits no
@@ -200,5 +202,25 @@ impl Word64 {
             0 => Err(DivFault::Zero),
             by => Ok(Word64((self.0.cast_unsigned() % by).cast_signed())),
         }
+    }
+
+    /// What conv makes of the word: the number of the kind that has its lowest bits, as 64 bits. The
+    /// word is read as unsigned where the kind is u4, u8 or u, and else as signed. ECMA-335
+    /// III.3.27.
+    pub fn converted(self, to: NumKind) -> i64
+        ensures { let source = widened w64 (reads_unsigned to) self.0 in
+            result ≡ int_wrap w64 (low_bits to source) }
+    {
+        convert(self.0, to)
+    }
+
+    /// What conv.ovf makes of the word, read as signed, and conv.ovf.un, read as unsigned: the same
+    /// number as 64 bits; `None` exactly where the kind has no such number. ECMA-335 III.3.28,
+    /// III.3.29.
+    pub fn converted_ovf(self, from_unsigned: bool, to: NumKind) -> Option<i64>
+        ensures { let source = widened w64 from_unsigned self.0 in
+            SomeIff result (Holds to source) (int_wrap w64 source) }
+    {
+        convert_ovf(self.0, from_unsigned, to)
     }
 }
