@@ -2,7 +2,7 @@
 use Rattle.std.specs.Prelude.{◌≡◌, ℕ, ◌+◌, ◌≤◌, not, List, length, None, unwrap_or}
 use Rattle.std.specs.List.{find}
 use Rattle.meta_heaps.specs.declared.header.Header.{Header}
-use Rattle.meta_heaps.specs.Heaps.{LiesIn}
+use Rattle.cli_words.specs.Span.{LiesIn}
 use Rattle.meta_heaps.specs.Streams.{headers_at, headers, header_end, name_len, fits, stream_of}
 
 -- the header at a place

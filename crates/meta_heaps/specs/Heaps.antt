@@ -1,18 +1,10 @@
 -- The entries of the heaps (ECMA-335 II.24.2.3, II.24.2.4, II.24.2.5).
-use Rattle.std.specs.Prelude.{ℕ, ◌≤◌, ◌+◌, ◌-◌, ◌*◌, ◌%◌, ◌==◌, ◌&&◌, nat_lt, nat_le, if◌then◌else◌, List, take, drop, Option, Some, None}
-use Rattle.std.specs.List.{position}
+use Rattle.std.specs.Prelude.{ℕ, ◌+◌, ◌-◌, ◌*◌, ◌%◌, ◌==◌, ◌&&◌, nat_lt, nat_le, if◌then◌else◌, List, drop, Option, Some, None}
 use Rattle.std.specs.Option.{option_map, option_and_then}
 use Rattle.cli_words.specs.declared.span.Span.{Span}
+use Rattle.cli_words.specs.Span.{cut, LiesIn, zero_after}
 use Rattle.cli_words.specs.Compressed.{number_at_front}
 use Rattle.meta_heaps.specs.declared.heap.Root.{Root}
-
--- the bytes of a span
-abbrev pub cut : List ℕ → Span → List ℕ
-cut bytes span = take span.len (drop span.at bytes)
-
--- the whole span lies in bytes of this length
-abbrev pub LiesIn : ℕ → Span → Type 0
-LiesIn len span = span.at + span.len ≤ len
 
 -- each heap and the stream of the tables lie in bytes of this length
 pub record IsWithin (len : ℕ) (root : Root) : Type 0 where
@@ -21,10 +13,6 @@ pub record IsWithin (len : ℕ) (root : Root) : Type 0 where
   pub user_strings : LiesIn len root.user_strings
   pub guids : LiesIn len root.guids
   pub blobs : LiesIn len root.blobs
-
--- how many bytes stand before the first zero
-abbrev pub zero_after : List ℕ → Option ℕ
-zero_after = position (λ b. b == 0)
 
 -- the bytes of a string heap from the index to the first zero (II.24.2.3)
 abbrev pub string_at : List ℕ → Span → ℕ → Option Span
@@ -54,13 +42,13 @@ blob_at bytes heap index =
     else entry_at bytes heap index
 
 -- the units of an entry, whose one last byte is none of them
-abbrev pub units_in : Span → Option Span
-units_in entry =
+abbrev pub unit_bytes : Span → Option Span
+unit_bytes entry =
     if entry.len % 2 == 1 then Some (record { at = entry.at; len = entry.len - 1 }) else None
 
 -- the bytes of a user string's units (II.24.2.4)
 abbrev pub user_string_at : List ℕ → Span → ℕ → Option Span
-user_string_at bytes heap index = option_and_then units_in (entry_at bytes heap index)
+user_string_at bytes heap index = option_and_then unit_bytes (entry_at bytes heap index)
 
 -- the 16 bytes of a GUID, counted from 1 (II.24.2.5)
 abbrev pub guid_at : Span → ℕ → Option Span

@@ -6,7 +6,7 @@ use Rattle.std.specs.List.{find}
 use Rattle.std.specs.Str.{bytes_eq}
 use Rattle.cli_words.specs.declared.span.Span.{Span}
 use Rattle.cli_words.specs.Number.{number_at}
-use Rattle.meta_heaps.specs.Heaps.{zero_after}
+use Rattle.cli_words.specs.Span.{zero_after}
 
 -- how many bytes the version has; they stand after the first 16 (II.24.2.1)
 abbrev pub version_len : List ℕ → ℕ

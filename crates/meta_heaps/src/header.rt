@@ -8,8 +8,28 @@ ghost use Rattle.meta_heaps.specs.Streams.{headers, headers_at, stream_count, na
 ghost use Rattle.meta_heaps.specs.Streams.{named};
 ghost use Rattle.meta_heaps.specs.Headers.{IsSound, LiesWhole, header_of};
 
-use crate::heap::zero_after;
-use cli_words::{Span, u16_at, u32_at};
+use cli_words::{Span, u16_at, u32_at, zero_after};
+
+/// The bytes of the root before its version.
+const BEFORE_VERSION: usize = 16;
+
+/// Where among them the length of the version stands.
+const VERSION_LENGTH: usize = 12;
+
+/// The bytes between the version and the stream headers: flags, and the count of the headers.
+const AFTER_VERSION: usize = 4;
+
+/// The bytes of that count, the last before the headers.
+const STREAM_COUNT: usize = 2;
+
+/// The bytes of a header before its name: the place and the length of its stream.
+const BEFORE_NAME: usize = 8;
+
+/// Where among them the length stands.
+const STREAM_LENGTH: usize = 4;
+
+/// A name with its zero is padded to a multiple of so many bytes.
+const NAME_UNIT: usize = 4;
 
 /// The most bytes that a stream's name has, with its zero.
 const MAX_NAME: usize = 32;
@@ -65,7 +85,7 @@ fn is_named(metadata: &[u8], header: &Header, name: &[u8]) -> bool
     ensures { result ≡ bytes_eq
         (take header.now.name_len (drop (header.now.at + 8) metadata.now)) name.now }
 {
-    &metadata[header.at + 8..][..header.name_len] == name
+    &metadata[header.at + BEFORE_NAME..][..header.name_len] == name
 }
 
 /// The header at a place, if it lies in the metadata whole, and its stream does.
@@ -76,10 +96,10 @@ fn read_header(metadata: &[u8], at: usize) -> Option<Header>
     ensures within { IfSome result (λ header. LiesWhole (length metadata.now) header) }
 {
     let name_len = name_len(metadata, at)?;
-    let end = at + 8 + (name_len + 4) / 4 * 4;
+    let end = at + BEFORE_NAME + (name_len + NAME_UNIT) / NAME_UNIT * NAME_UNIT;
     let stream = Span {
         at: u32_at(metadata, at) as usize,
-        len: u32_at(metadata, at + 4) as usize,
+        len: u32_at(metadata, at + STREAM_LENGTH) as usize,
     };
     if end > metadata.len() || stream.at + stream.len > metadata.len() {
         return None;
@@ -98,7 +118,7 @@ fn name_len(metadata: &[u8], at: usize) -> Option<usize>
     ensures found { result ≡ name_len metadata.now at }
     ensures within { IfSome result (λ len. at + 8 + len < length metadata.now) }
 {
-    let name = metadata.get(at + 8..)?;
+    let name = metadata.get(at + BEFORE_NAME..)?;
     zero_after(&name[..MAX_NAME.min(name.len())])
 }
 
@@ -106,19 +126,19 @@ fn name_len(metadata: &[u8], at: usize) -> Option<usize>
 pub(crate) fn has_root(metadata: &[u8]) -> bool
     ensures { result ≡ nat_le (headers_at metadata.now) (length metadata.now) }
 {
-    metadata.len() >= 16 && headers_at(metadata) <= metadata.len()
+    metadata.len() >= BEFORE_VERSION && headers_at(metadata) <= metadata.len()
 }
 
 fn headers_at(metadata: &[u8]) -> usize
     requires { 16 ≤ length metadata.now }
     ensures { result ≡ headers_at metadata.now }
 {
-    u32_at(metadata, 12) as usize + 20
+    u32_at(metadata, VERSION_LENGTH) as usize + BEFORE_VERSION + AFTER_VERSION
 }
 
 fn stream_count(metadata: &[u8]) -> u16
     requires { headers_at metadata.now ≤ length metadata.now }
     ensures { result ≡ stream_count metadata.now }
 {
-    u16_at(metadata, headers_at(metadata) - 2)
+    u16_at(metadata, headers_at(metadata) - STREAM_COUNT)
 }

@@ -1,9 +1,10 @@
 //! The entries of the heaps.
 ghost use Rattle.std.specs.Prelude.{◌≡◌, length, IfSome};
-ghost use Rattle.meta_heaps.specs.Heaps.{IsWithin, LiesIn, cut, zero_after, string_at, entry_at};
-ghost use Rattle.meta_heaps.specs.Heaps.{blob_at, user_string_at, guid_at};
+ghost use Rattle.cli_words.specs.Span.{LiesIn};
+ghost use Rattle.meta_heaps.specs.Heaps.{IsWithin, string_at, entry_at, blob_at, user_string_at};
+ghost use Rattle.meta_heaps.specs.Heaps.{guid_at};
 
-use cli_words::{Span, read_compressed};
+use cli_words::{Span, read_compressed, zero_after};
 
 /// The length of an entry of `#GUID`, in bytes.
 const GUID_LEN: usize = 16;
@@ -33,7 +34,7 @@ impl Root {
         ensures within { IfSome result (λ entry. LiesIn (length bytes.now) entry) }
     {
         let index = index as usize;
-        let len = zero_after(cut(bytes, self.strings).get(index..)?)?;
+        let len = zero_after(self.strings.cut(bytes).get(index..)?)?;
         Some(Span {
             at: self.strings.at + index,
             len,
@@ -95,7 +96,7 @@ fn entry(bytes: &[u8], heap: Span, index: u32) -> Option<Span>
     ensures within { IfSome result (λ entry. LiesIn (length bytes.now) entry) }
 {
     let index = index as usize;
-    let (len, taken) = read_compressed(cut(bytes, heap), index)?;
+    let (len, taken) = read_compressed(heap.cut(bytes), index)?;
     let from = index + taken;
     let len = len as usize;
     if from + len > heap.len {
@@ -105,19 +106,4 @@ fn entry(bytes: &[u8], heap: Span, index: u32) -> Option<Span>
         at: heap.at + from,
         len,
     })
-}
-
-/// The bytes of a span.
-pub(crate) fn cut(bytes: &[u8], span: Span) -> &[u8]
-    requires { LiesIn (length bytes.now) span }
-    ensures { result.now ≡ cut bytes.now span }
-{
-    &bytes[span.at..][..span.len]
-}
-
-/// How many bytes stand before the first zero.
-pub(crate) fn zero_after(bytes: &[u8]) -> Option<usize>
-    ensures { result ≡ zero_after bytes.now }
-{
-    bytes.iter().position(|b| *b == 0)
 }

@@ -7,7 +7,7 @@ mod heap;
 mod root;
 
 pub use heap::Root;
-pub use root::{RootFault, read_root};
+pub use root::read_root;
 
 #[cfg(test)]
 mod tests;

@@ -1,28 +1,14 @@
 //! The metadata root. ECMA-335 II.24.2.1.
-ghost use Rattle.std.specs.Prelude.{◌≡◌, ◌+◌, ◌-◌, ◌≤◌, ◌<◌, ◌^◌, length, None, Some, Ok, Err};
-ghost use Rattle.std.specs.Prelude.{MatchResult, IfOk};
-ghost use Rattle.cli_words.specs.Check.{first_fault};
-ghost use Rattle.meta_heaps.specs.declared.root.RootFault.TheVariants.{Bad};
-ghost use Rattle.meta_heaps.specs.Heaps.{IsWithin, LiesIn};
+ghost use Rattle.std.specs.Prelude.{◌≡◌, ◌+◌, ◌-◌, ◌<◌, ◌^◌, length, IfOk};
+ghost use Rattle.cli_words.specs.Check.{first_fault, answer};
+ghost use Rattle.cli_words.specs.Span.{LiesIn};
+ghost use Rattle.meta_heaps.specs.Heaps.{IsWithin};
 ghost use Rattle.meta_heaps.specs.Headers.{IsSound};
 ghost use Rattle.meta_heaps.specs.Reading.{root_checks, metadata_checks, root_of, root_in, span_of};
-ghost use Rattle.meta_heaps.specs.Reading.{fault_of};
 
 use crate::header::{first_outside, has_root, named};
-use crate::heap::{Root, cut};
-use cli_words::Span;
-use thiserror::Error;
-
-// The codes of the checks.
-const CUT: u16 = 1;
-
-const ROOT_SIGNATURE: u16 = 8;
-
-const BOUNDS: u16 = 9;
-
-const EDIT_STREAM: u16 = 10;
-
-const NO_TABLES: u16 = 11;
+use crate::heap::Root;
+use cli_words::{CheckCode, FailedCheck, Span};
 
 /// The first bytes of a metadata root.
 const SIGNATURE: [u8; 4] = [0x42, 0x53, 0x4A, 0x42];
@@ -30,61 +16,54 @@ const SIGNATURE: [u8; 4] = [0x42, 0x53, 0x4A, 0x42];
 /// The least length of `#~`, in bytes.
 const LEAST_TABLES: usize = 24;
 
-/// Why metadata has no root.
-#[derive(Clone, Copy, PartialEq, Eq, Debug, Error)]
-pub enum RootFault {
-    /// The first check that fails, in this order, with its byte in the file.
-    /// - 1: the metadata runs past the bytes, at their end.
-    /// - 8: it does not begin with the signature, at its first byte.
-    /// - 9: the root runs past the metadata, at its first byte; then the first header that runs
-    ///   past it, or whose name has no zero among its first 32 bytes, or whose stream runs past
-    ///   it, at that header.
-    /// - 10: a stream is named `#-`, at its header.
-    /// - 11: there is no stream `#~`, or the first has fewer than 24 bytes, at the root.
-    #[error("code {code} at byte {at}")]
-    Bad { code: u16, at: u32 },
-}
-
 /// The streams of the metadata that the bytes have at `root`. Of two streams of one name the first
-/// counts, and streams of other names are passed over. ECMA-335 II.24.2.1, II.24.2.2.
-pub fn read_root(bytes: &[u8], root: Span) -> Result<Root, RootFault>
+/// counts, and streams of other names are passed over. Refused exactly at the first check that
+/// fails, in this order. ECMA-335 II.24.2.1, II.24.2.2.
+///
+/// | Check | What is wrong | At which byte |
+/// |---|---|---|
+/// | `Cut` | the metadata runs past the bytes | at their end |
+/// | `RootSignature` | it does not begin with its signature | at its first byte |
+/// | `Bounds` | the root runs past the metadata | at its first byte |
+/// | `Bounds` | a stream header, its name of at most 32 bytes or its stream does so | at the header |
+/// | `EditStream` | a stream is named `#-` | at its header |
+/// | `NoTables` | no stream is named `#~`, or the first such has fewer than 24 bytes | at the root |
+///
+/// A name counts with its zero; of headers that fail, the first tells the place.
+pub fn read_root(bytes: &[u8], root: Span) -> Result<Root, FailedCheck>
     requires { length bytes.now < 2 ^ 32 - 1 }
-    ensures checked { MatchResult result
-        (λ found. (first_fault (root_checks bytes.now root) ≡ None)
-        × (found ≡ root_of bytes.now root))
-        (λ fault. first_fault (root_checks bytes.now root) ≡ Some (fault_of fault)) }
+    ensures answer { result
+        ≡ answer (first_fault (root_checks bytes.now root)) (root_of bytes.now root) }
     ensures within { IfOk result (λ found. IsWithin (length bytes.now) found) }
 {
-    if root.at > bytes.len() || root.len > bytes.len() - root.at {
-        return Err(bad(CUT, bytes.len()));
+    if !root.lies_in(bytes.len()) {
+        return Err(FailedCheck::of(CheckCode::Cut, bytes.len()));
     }
-    read_metadata(cut(bytes, root), root)
+    read_metadata(root.cut(bytes), root)
 }
 
-fn read_metadata(metadata: &[u8], root: Span) -> Result<Root, RootFault>
+fn read_metadata(metadata: &[u8], root: Span) -> Result<Root, FailedCheck>
     requires whole { root.len ≡ length metadata.now }
     requires short { root.at + root.len < 2 ^ 32 }
-    ensures checked { MatchResult result
-        (λ found. (first_fault (metadata_checks metadata.now root) ≡ None)
-        × (found ≡ root_in metadata.now root))
-        (λ fault. first_fault (metadata_checks metadata.now root) ≡ Some (fault_of fault)) }
+    ensures answer { result
+        ≡ answer (first_fault (metadata_checks metadata.now root)) (root_in metadata.now root) }
     ensures within { IfOk result (λ found. IsWithin (root.at + root.len) found) }
 {
     if !metadata.starts_with(&SIGNATURE) {
-        return Err(bad(ROOT_SIGNATURE, root.at));
+        return Err(FailedCheck::of(CheckCode::RootSignature, root.at));
     }
     if !has_root(metadata) {
-        return Err(bad(BOUNDS, root.at));
+        return Err(FailedCheck::of(CheckCode::Bounds, root.at));
     }
     if let Some(at) = first_outside(metadata) {
-        return Err(bad(BOUNDS, root.at + at));
+        return Err(FailedCheck::of(CheckCode::Bounds, root.at + at));
     }
     if let Some(header) = named(metadata, b"#-") {
-        return Err(bad(EDIT_STREAM, root.at + header.at));
+        return Err(FailedCheck::of(CheckCode::EditStream, root.at + header.at));
     }
     let tables = span_of(metadata, root, b"#~");
     if tables.len < LEAST_TABLES {
-        return Err(bad(NO_TABLES, root.at));
+        return Err(FailedCheck::of(CheckCode::NoTables, root.at));
     }
     Ok(Root {
         tables,
@@ -112,15 +91,5 @@ fn span_of(metadata: &[u8], root: Span, name: &[u8]) -> Span
             at: root.at,
             len: 0,
         },
-    }
-}
-
-fn bad(code: u16, at: usize) -> RootFault
-    requires { at < 2 ^ 32 }
-    ensures { result ≡ Bad code at }
-{
-    RootFault::Bad {
-        code,
-        at: at as u32,
     }
 }

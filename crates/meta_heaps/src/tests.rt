@@ -1,5 +1,6 @@
-use crate::{Root, RootFault, read_root};
-use cli_words::Span;
+use crate::{Root, read_root};
+use cli_words::CheckCode::{Bounds, Cut, EditStream, NoTables, RootSignature};
+use cli_words::{CheckCode, FailedCheck, Span};
 use std::alloc::{AllocError, Global};
 use std::test::Fail;
 
@@ -45,8 +46,8 @@ fn span(at: usize, len: usize) -> Span {
     Span { at, len }
 }
 
-fn bad(code: u16, at: u32) -> Result<Root, RootFault> {
-    Err(RootFault::Bad { code, at })
+fn bad(code: CheckCode, at: u32) -> Result<Root, FailedCheck> {
+    Err(FailedCheck { code, at })
 }
 
 #[test]
@@ -59,15 +60,8 @@ fn reads_streams(rt: HostRuntime) -> Result<(), Fail> {
         blobs: span(167, 8),
     };
     let missing = span(3, 0);
-    let rows: [(&[(usize, u8)], Result<Root, RootFault>); 15] = [
+    let rows: [(&[(usize, u8)], Result<Root, FailedCheck>); 12] = [
         (&[], Ok(whole)),
-        (
-            &[(51, 40)],
-            Ok(Root {
-                strings: span(135, 40),
-                ..whole
-            }),
-        ),
         // the second `#GUID`, and no `#Blob`
         (
             &[(104, b'G'), (105, b'U'), (106, b'I'), (107, b'D')],
@@ -77,25 +71,22 @@ fn reads_streams(rt: HostRuntime) -> Result<(), Fail> {
             }),
         ),
         (
-            &[(55, b'$'), (76, b'u')],
+            &[(55, b'$'), (51, 40)],
             Ok(Root {
                 strings: missing,
-                user_strings: missing,
                 ..whole
             }),
         ),
-        (&[(3, 0x43)], bad(8, 3)),
-        (&[(6, 0x43)], bad(8, 3)),
-        (&[(16, 1)], bad(9, 3)),
+        (&[(6, 0x43)], bad(RootSignature, 3)),
+        (&[(16, 1)], bad(Bounds, 3)),
         // one header more: what follows the last one has a size past the metadata
-        (&[(33, 6)], bad(9, 111)),
-        (&[(51, 41)], bad(9, 47)),
-        (&[(50, 0xff)], bad(9, 47)),
-        (&[(76, b'-'), (77, 0)], bad(10, 67)),
-        (&[(76, b'-'), (77, 0), (99, 9)], bad(9, 95)),
-        (&[(44, b'x')], bad(11, 3)),
-        (&[(39, 23)], bad(11, 3)),
-        (&[(44, b'-')], bad(10, 35)),
+        (&[(33, 6)], bad(Bounds, 111)),
+        (&[(51, 41)], bad(Bounds, 47)),
+        (&[(50, 0xff)], bad(Bounds, 47)),
+        (&[(76, b'-'), (77, 0)], bad(EditStream, 67)),
+        (&[(76, b'-'), (77, 0), (99, 9)], bad(Bounds, 95)),
+        (&[(44, b'x')], bad(NoTables, 3)),
+        (&[(39, 23)], bad(NoTables, 3)),
     ];
     for (edits, answer) in rows {
         let mut bytes = file(rt.alloc())?;
@@ -111,42 +102,31 @@ fn reads_streams(rt: HostRuntime) -> Result<(), Fail> {
 }
 
 #[test]
-fn refuses_cut_metadata(rt: HostRuntime) -> Result<(), Fail> {
+fn refuses_what_is_cut(rt: HostRuntime) -> Result<(), Fail> {
     let bytes = file(rt.alloc())?;
     assert_eq!(rt; bytes.len(), 175);
     for (root, answer) in [
-        (span(3, 173), bad(1, 175)),
-        (span(176, 0), bad(1, 175)),
-        (span(usize::MAX, usize::MAX), bad(1, 175)),
-        (span(175, 0), bad(8, 175)),
-        (span(3, 3), bad(8, 3)),
-        (span(3, 4), bad(9, 3)),
-        (span(3, 31), bad(9, 3)),
-        (span(3, 32), bad(9, 35)),
-        (span(3, 171), bad(9, 95)),
+        (span(3, 173), bad(Cut, 175)),
+        (span(usize::MAX, usize::MAX), bad(Cut, 175)),
+        (span(175, 0), bad(RootSignature, 175)),
+        (span(3, 4), bad(Bounds, 3)),
+        (span(3, 31), bad(Bounds, 3)),
+        (span(3, 32), bad(Bounds, 35)),
+        (span(3, 171), bad(Bounds, 95)),
     ] {
         assert_eq!(rt; read_root(&bytes, root), answer);
     }
-    Ok(())
-}
-
-#[test]
-fn bounds_names(rt: HostRuntime) -> Result<(), Fail> {
-    let longest = b"0123456789012345678901234567890\0";
-    let too_long = b"01234567890123456789012345678901\0\0\0\0";
-    let rows: [(&[u8], Result<Root, RootFault>); 6] = [
-        (longest, bad(11, 0)),
-        (too_long, bad(9, 20)),
-        (b"#-\0\0", bad(10, 20)),
-        (b"#-\0", bad(9, 20)),
-        (b"#~", bad(9, 20)),
-        (b"", bad(9, 20)),
+    let rows: [(&[u8], Result<Root, FailedCheck>); 5] = [
+        (b"0123456789012345678901234567890\0", bad(NoTables, 0)),
+        (b"01234567890123456789012345678901\0\0\0\0", bad(Bounds, 20)),
+        (b"#-\0\0", bad(EditStream, 20)),
+        (b"#-\0", bad(Bounds, 20)),
+        (b"#~", bad(Bounds, 20)),
     ];
     for (name, answer) in rows {
         let bytes = one_stream(rt.alloc(), name)?;
         assert!(rt; bytes.len() < 100);
-        let root = span(0, bytes.len());
-        assert_eq!(rt; read_root(&bytes, root), answer);
+        assert_eq!(rt; read_root(&bytes, span(0, bytes.len())), answer);
     }
     Ok(())
 }
@@ -156,42 +136,25 @@ fn finds_entries(rt: HostRuntime) -> Result<(), Fail> {
     let bytes = file(rt.alloc())?;
     assert_eq!(rt; bytes.len(), 175);
     let root = read_root(&bytes, ROOT)?;
-    for (index, found) in [
-        (0, Some(span(135, 0))),
-        (1, Some(span(136, 3))),
-        (3, Some(span(138, 1))),
-        (5, None),
-        (8, None),
-        (u32::MAX, None),
+    for (index, string, blob, text, guid) in [
+        (0, Some(span(135, 0)), Some(span(168, 0)), None, None),
+        (
+            1,
+            Some(span(136, 3)),
+            Some(span(169, 3)),
+            Some(span(145, 4)),
+            Some(span(151, 16)),
+        ),
+        (3, Some(span(138, 1)), None, None, None),
+        (5, None, Some(span(173, 2)), None, None),
+        (7, None, None, None, None),
+        (8, None, None, None, None),
+        (u32::MAX, None, None, None, None),
     ] {
-        assert_eq!(rt; root.string(&bytes, index), found);
-    }
-    for (index, found) in [
-        (0, Some(span(168, 0))),
-        (1, Some(span(169, 3))),
-        (3, None),
-        (5, Some(span(173, 2))),
-        (7, None),
-        (8, None),
-    ] {
-        assert_eq!(rt; root.blob(&bytes, index), found);
-    }
-    for (index, found) in [
-        (0, None),
-        (1, Some(span(145, 4))),
-        (2, None),
-        (7, None),
-        (8, None),
-    ] {
-        assert_eq!(rt; root.user_string(&bytes, index), found);
-    }
-    for (index, found) in [
-        (0, None),
-        (1, Some(span(151, 16))),
-        (2, None),
-        (u32::MAX, None),
-    ] {
-        assert_eq!(rt; root.guid(&bytes, index), found);
+        assert_eq!(rt; root.string(&bytes, index), string);
+        assert_eq!(rt; root.blob(&bytes, index), blob);
+        assert_eq!(rt; root.user_string(&bytes, index), text);
+        assert_eq!(rt; root.guid(&bytes, index), guid);
     }
     let empty = Root {
         strings: Span { at: 3, len: 0 },

@@ -6,10 +6,12 @@ use Rattle.std.proofs.lemmas.List.FromFn.{fill_by_all, get_or-range_with_len, le
 use Rattle.std.proofs.lemmas.List.Folds.{list_all_at, list_all-append}
 use Rattle.cli_words.specs.declared.span.Span.{Span}
 use Rattle.std.proofs.lemmas.List.Elements.{filter-append}
+use Rattle.metadata_tables.specs.Tables.{table_count}
 use Rattle.metadata_tables.specs.Layout.{is_set}
 use Rattle.metadata_tables.specs.Reading.{present_below, count_at, count_in, counts_of, valid_of, is_allowed, are_allowed, layout_of, lies_whole, checks}
 use Rattle.metadata_tables.specs.Layout.{rows_end}
 use Rattle.cli_words.specs.Check.{check, first_fault}
+use Rattle.cli_words.specs.declared.check.CheckCode.TheVariants as code
 use Rattle.metadata_tables.proofs.LayoutLemmas.{range_next, rises, table_first, table_rises}
 
 one : (b : Bool) (t : ℕ) → length (cond b (t ∷ []) []) ≡ cond b 1 0
@@ -61,7 +63,7 @@ count_near bytes at t below =
     omega arith
 
 -- all counts are read
-pub counted : (bytes : List ℕ) (at : ℕ) (counts : List ℕ) (n : ℕ) → length counts ≡ n → n ≡ 45
+pub counted : (bytes : List ℕ) (at : ℕ) (counts : List ℕ) (n : ℕ) → length counts ≡ n → n ≡ table_count
     → ((k : ℕ) → k < n → get_or counts k 0 ≡ count_in bytes at k) → counts ≡ counts_of bytes at
 unfolding counts_of
 counted bytes at counts n long all each =
@@ -95,16 +97,16 @@ module _ (bytes : List ℕ) (stream : Span) where
 -- the fault of a stream whose rows do not lie in it
 pub first_bounds : (bytes : List ℕ) (stream : Span) → are_allowed bytes stream ≡ true
     → stream.at + stream.len < rows_end (layout_of bytes stream.at)
-    → first_fault (checks bytes stream) ≡ Some (record { code = 9; at = stream.at })
+    → first_fault (checks bytes stream) ≡ Some (record { code = code.Bounds; at = stream.at })
 first_bounds bytes stream fine past =
     let bad : lies_whole bytes stream ≡ false = lt-leb _ _ past in
-    rw fine (ap (λ b. first_fault (check b 9 stream.at ∷ [])) bad)
+    rw fine (ap (λ b. first_fault (check b code.Bounds stream.at ∷ [])) bad)
 
 -- the rows stand behind the counts
 pub rows_behind : (bytes : List ℕ) (at : ℕ) → count_at bytes at 64 ≤ rows_end (layout_of bytes at)
 rows_behind bytes at =
     let first = table_first (layout_of bytes at) in
-    let up = table_rises (layout_of bytes at) 0 45 (omega arith) in
+    let up = table_rises (layout_of bytes at) 0 table_count (omega arith) in
     omega arith
 
 -- the places of counts, one after the other

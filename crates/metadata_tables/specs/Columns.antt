@@ -2,9 +2,10 @@
 -- (II.24.2.6).
 use Rattle.std.specs.Prelude.{ℕ, ◌-◌, ◌/◌, ◌%◌, ◌^◌, nat_le, List, [], ◌∷◌, slice_index_or, slice_get, Option, None, option_map, if◌then◌else◌}
 use Rattle.metadata_tables.specs.declared.schema.Column.{Column}
-use Rattle.metadata_tables.specs.declared.schema.Column.TheVariants.{U8, U16, U32, Strings, Guid, Blob, Table, Run, Coded}
+use Rattle.metadata_tables.specs.declared.schema.Column.TheVariants.{U8, U16, U32, Strings, Guid, Blob, Table, List as ListColumn, Coded}
 use Rattle.metadata_tables.specs.declared.schema.CodedIndex.{CodedIndex}
 use Rattle.metadata_tables.specs.declared.schema.CodedIndex.TheVariants.{TypeDefOrRef, HasConstant, HasCustomAttribute, HasFieldMarshal, HasDeclSecurity, MemberRefParent, HasSemantics, MethodDefOrRef, MemberForwarded, Implementation, CustomAttributeType, ResolutionScope, TypeOrMethodDef}
+use Rattle.metadata_tables.specs.Tables.{«module», type_ref, type_def, field, method_def, param, interface_impl, member_ref, decl_security, stand_alone_sig, event, property, module_ref, type_spec, assembly, assembly_ref, file, exported_type, manifest_resource, generic_param, method_spec, generic_param_constraint}
 
 -- the columns of the tables 00 to 2C, from the left; a refused table has none
 abbrev pub tables : List (List Column)
@@ -14,7 +15,8 @@ tables =
     -- 01 TypeRef: ResolutionScope, Name, Namespace
     (Coded ResolutionScope ∷ Strings ∷ Strings ∷ []) ∷
     -- 02 TypeDef: Flags, Name, Namespace, Extends, FieldList, MethodList
-    (U32 ∷ Strings ∷ Strings ∷ Coded TypeDefOrRef ∷ Run 0x04 ∷ Run 0x06 ∷ []) ∷
+    (U32 ∷ Strings ∷ Strings ∷ Coded TypeDefOrRef ∷ ListColumn field ∷ ListColumn method_def
+    ∷ []) ∷
     -- 03 FieldPtr is refused
     [] ∷
     -- 04 Field: Flags, Name, Signature
@@ -22,13 +24,13 @@ tables =
     -- 05 MethodPtr is refused
     [] ∷
     -- 06 MethodDef: RVA, ImplFlags, Flags, Name, Signature, ParamList
-    (U32 ∷ U16 ∷ U16 ∷ Strings ∷ Blob ∷ Run 0x08 ∷ []) ∷
+    (U32 ∷ U16 ∷ U16 ∷ Strings ∷ Blob ∷ ListColumn param ∷ []) ∷
     -- 07 ParamPtr is refused
     [] ∷
     -- 08 Param: Flags, Sequence, Name
     (U16 ∷ U16 ∷ Strings ∷ []) ∷
     -- 09 InterfaceImpl: Class, Interface
-    (Table 0x02 ∷ Coded TypeDefOrRef ∷ []) ∷
+    (Table type_def ∷ Coded TypeDefOrRef ∷ []) ∷
     -- 0A MemberRef: Class, Name, Signature
     (Coded MemberRefParent ∷ Strings ∷ Blob ∷ []) ∷
     -- 0B Constant: Type, padding, Parent, Value
@@ -40,35 +42,35 @@ tables =
     -- 0E DeclSecurity: Action, Parent, PermissionSet
     (U16 ∷ Coded HasDeclSecurity ∷ Blob ∷ []) ∷
     -- 0F ClassLayout: PackingSize, ClassSize, Parent
-    (U16 ∷ U32 ∷ Table 0x02 ∷ []) ∷
+    (U16 ∷ U32 ∷ Table type_def ∷ []) ∷
     -- 10 FieldLayout: Offset, Field
-    (U32 ∷ Table 0x04 ∷ []) ∷
+    (U32 ∷ Table field ∷ []) ∷
     -- 11 StandAloneSig: Signature
     (Blob ∷ []) ∷
     -- 12 EventMap: Parent, EventList
-    (Table 0x02 ∷ Run 0x14 ∷ []) ∷
+    (Table type_def ∷ ListColumn event ∷ []) ∷
     -- 13 EventPtr is refused
     [] ∷
     -- 14 Event: EventFlags, Name, EventType
     (U16 ∷ Strings ∷ Coded TypeDefOrRef ∷ []) ∷
     -- 15 PropertyMap: Parent, PropertyList
-    (Table 0x02 ∷ Run 0x17 ∷ []) ∷
+    (Table type_def ∷ ListColumn property ∷ []) ∷
     -- 16 PropertyPtr is refused
     [] ∷
     -- 17 Property: Flags, Name, Type
     (U16 ∷ Strings ∷ Blob ∷ []) ∷
     -- 18 MethodSemantics: Semantics, Method, Association
-    (U16 ∷ Table 0x06 ∷ Coded HasSemantics ∷ []) ∷
+    (U16 ∷ Table method_def ∷ Coded HasSemantics ∷ []) ∷
     -- 19 MethodImpl: Class, MethodBody, MethodDeclaration
-    (Table 0x02 ∷ Coded MethodDefOrRef ∷ Coded MethodDefOrRef ∷ []) ∷
+    (Table type_def ∷ Coded MethodDefOrRef ∷ Coded MethodDefOrRef ∷ []) ∷
     -- 1A ModuleRef: Name
     (Strings ∷ []) ∷
     -- 1B TypeSpec: Signature
     (Blob ∷ []) ∷
     -- 1C ImplMap: MappingFlags, MemberForwarded, ImportName, ImportScope
-    (U16 ∷ Coded MemberForwarded ∷ Strings ∷ Table 0x1A ∷ []) ∷
+    (U16 ∷ Coded MemberForwarded ∷ Strings ∷ Table module_ref ∷ []) ∷
     -- 1D FieldRVA: RVA, Field
-    (U32 ∷ Table 0x04 ∷ []) ∷
+    (U32 ∷ Table field ∷ []) ∷
     -- 1E EncLog is refused
     [] ∷
     -- 1F EncMap is refused
@@ -82,9 +84,9 @@ tables =
     -- 23 AssemblyRef: four words of the version, Flags, PublicKeyOrToken, Name, Culture, HashValue
     (U16 ∷ U16 ∷ U16 ∷ U16 ∷ U32 ∷ Blob ∷ Strings ∷ Strings ∷ Blob ∷ []) ∷
     -- 24 AssemblyRefProcessor: Processor, AssemblyRef
-    (U32 ∷ Table 0x23 ∷ []) ∷
+    (U32 ∷ Table assembly_ref ∷ []) ∷
     -- 25 AssemblyRefOS: OSPlatformID, OSMajorVersion, OSMinorVersion, AssemblyRef
-    (U32 ∷ U32 ∷ U32 ∷ Table 0x23 ∷ []) ∷
+    (U32 ∷ U32 ∷ U32 ∷ Table assembly_ref ∷ []) ∷
     -- 26 File: Flags, Name, HashValue
     (U32 ∷ Strings ∷ Blob ∷ []) ∷
     -- 27 ExportedType: Flags, TypeDefId, TypeName, TypeNamespace, Implementation
@@ -92,18 +94,22 @@ tables =
     -- 28 ManifestResource: Offset, Flags, Name, Implementation
     (U32 ∷ U32 ∷ Strings ∷ Coded Implementation ∷ []) ∷
     -- 29 NestedClass: NestedClass, EnclosingClass
-    (Table 0x02 ∷ Table 0x02 ∷ []) ∷
+    (Table type_def ∷ Table type_def ∷ []) ∷
     -- 2A GenericParam: Number, Flags, Owner, Name
     (U16 ∷ U16 ∷ Coded TypeOrMethodDef ∷ Strings ∷ []) ∷
     -- 2B MethodSpec: Method, Instantiation
     (Coded MethodDefOrRef ∷ Blob ∷ []) ∷
     -- 2C GenericParamConstraint: Owner, Constraint
-    (Table 0x2A ∷ Coded TypeDefOrRef ∷ []) ∷
+    (Table generic_param ∷ Coded TypeDefOrRef ∷ []) ∷
     []
 
 -- the columns of a table; a table past 2C is refused
 unfoldable pub columns_of : ℕ → List Column
 columns_of table = slice_index_or tables table []
+
+-- a column of a table, counted from 0
+abbrev pub column_of : ℕ → ℕ → Column
+column_of table k = slice_index_or (columns_of table) k U8
 
 -- how many of an index's lowest bits are its tag
 abbrev pub tag_bits_of : CodedIndex → ℕ
@@ -128,21 +134,23 @@ first_tag_of _ = 0
 
 -- the tables of an index, in the order of their tags
 abbrev pub tables_of : CodedIndex → List ℕ
-tables_of TypeDefOrRef = 0x02 ∷ 0x01 ∷ 0x1B ∷ []
-tables_of HasConstant = 0x04 ∷ 0x08 ∷ 0x17 ∷ []
+tables_of TypeDefOrRef = type_def ∷ type_ref ∷ type_spec ∷ []
+tables_of HasConstant = field ∷ param ∷ property ∷ []
 tables_of HasCustomAttribute =
-    0x06 ∷ 0x04 ∷ 0x01 ∷ 0x02 ∷ 0x08 ∷ 0x09 ∷ 0x0A ∷ 0x00 ∷ 0x0E ∷ 0x17 ∷ 0x14 ∷ 0x11 ∷ 0x1A ∷
-    0x1B ∷ 0x20 ∷ 0x23 ∷ 0x26 ∷ 0x27 ∷ 0x28 ∷ 0x2A ∷ 0x2C ∷ 0x2B ∷ []
-tables_of HasFieldMarshal = 0x04 ∷ 0x08 ∷ []
-tables_of HasDeclSecurity = 0x02 ∷ 0x06 ∷ 0x20 ∷ []
-tables_of MemberRefParent = 0x02 ∷ 0x01 ∷ 0x1A ∷ 0x06 ∷ 0x1B ∷ []
-tables_of HasSemantics = 0x14 ∷ 0x17 ∷ []
-tables_of MethodDefOrRef = 0x06 ∷ 0x0A ∷ []
-tables_of MemberForwarded = 0x04 ∷ 0x06 ∷ []
-tables_of Implementation = 0x26 ∷ 0x23 ∷ 0x27 ∷ []
-tables_of CustomAttributeType = 0x06 ∷ 0x0A ∷ []
-tables_of ResolutionScope = 0x00 ∷ 0x1A ∷ 0x23 ∷ 0x01 ∷ []
-tables_of TypeOrMethodDef = 0x02 ∷ 0x06 ∷ []
+    method_def ∷ field ∷ type_ref ∷ type_def ∷ param ∷ interface_impl ∷ member_ref ∷ «module» ∷
+    decl_security ∷ property ∷ event ∷ stand_alone_sig ∷ module_ref ∷ type_spec ∷ assembly ∷
+    assembly_ref ∷ file ∷ exported_type ∷ manifest_resource ∷ generic_param ∷
+    generic_param_constraint ∷ method_spec ∷ []
+tables_of HasFieldMarshal = field ∷ param ∷ []
+tables_of HasDeclSecurity = type_def ∷ method_def ∷ assembly ∷ []
+tables_of MemberRefParent = type_def ∷ type_ref ∷ module_ref ∷ method_def ∷ type_spec ∷ []
+tables_of HasSemantics = event ∷ property ∷ []
+tables_of MethodDefOrRef = method_def ∷ member_ref ∷ []
+tables_of MemberForwarded = field ∷ method_def ∷ []
+tables_of Implementation = file ∷ assembly_ref ∷ exported_type ∷ []
+tables_of CustomAttributeType = method_def ∷ member_ref ∷ []
+tables_of ResolutionScope = «module» ∷ module_ref ∷ assembly_ref ∷ type_ref ∷ []
+tables_of TypeOrMethodDef = type_def ∷ method_def ∷ []
 
 -- the table of a tag, where the tag is in use
 abbrev pub table_of : CodedIndex → ℕ → Option ℕ

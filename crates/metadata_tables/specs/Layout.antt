@@ -1,14 +1,15 @@
 -- How wide columns are, where rows stand, and what stands in them (ECMA-335 II.24.2.6).
-use Rattle.std.specs.Prelude.{ℕ, ◌+◌, ◌-◌, ◌*◌, ◌^◌, Bool, not, ◌&&◌, ◌==◌, nat_lt, nat_le, bit_and, List, map, take, length, slice_index, slice_index_or, Option, Some, None, option_map, if◌then◌else◌}
+use Rattle.std.specs.Prelude.{ℕ, ◌+◌, ◌-◌, ◌*◌, ◌^◌, Bool, not, ◌&&◌, ◌==◌, nat_lt, nat_le, bit_and, List, map, take, length, slice_index, Option, Some, None, option_map, if◌then◌else◌}
 use Rattle.std.specs.List.{list_all, range_with_len, sum_by}
 use Rattle.std.specs.Int.{w16, w32}
 use Rattle.cli_words.specs.Number.{number_at}
 use Rattle.metadata_tables.specs.declared.schema.Column.{Column}
-use Rattle.metadata_tables.specs.declared.schema.Column.TheVariants.{U8, U16, U32, Strings, Guid, Blob, Table, Run, Coded}
+use Rattle.metadata_tables.specs.declared.schema.Column.TheVariants.{U8, U16, U32, Strings, Guid, Blob, Table, List as ListColumn, Coded}
 use Rattle.metadata_tables.specs.declared.layout.Layout.{Layout}
 use Rattle.metadata_tables.specs.declared.layout.Width.{Width}
 use Rattle.metadata_tables.specs.declared.layout.Width.TheVariants.{One, Two, Four}
-use Rattle.metadata_tables.specs.Columns.{columns_of, tag_bits_of, tables_of}
+use Rattle.metadata_tables.specs.Tables.{table_count}
+use Rattle.metadata_tables.specs.Columns.{columns_of, column_of, tag_bits_of, tables_of}
 
 -- a bit of a number is 1
 abbrev pub is_set : ℕ → ℕ → Bool
@@ -39,7 +40,7 @@ width_of layout Strings = heap_width layout 0
 width_of layout Guid = heap_width layout 1
 width_of layout Blob = heap_width layout 2
 width_of layout (Table table) = index_width (is_narrow layout 0 table)
-width_of layout (Run table) = index_width (is_narrow layout 0 table)
+width_of layout (ListColumn table) = index_width (is_narrow layout 0 table)
 width_of layout (Coded index) =
     index_width (list_all (is_narrow layout (tag_bits_of index)) (tables_of index))
 
@@ -54,6 +55,12 @@ abbrev pub number_of : Width → List ℕ → ℕ → ℕ
 number_of One bytes at = slice_index bytes at
 number_of Two bytes at = number_at w16 bytes at
 number_of Four bytes at = number_at w32 bytes at
+
+-- the numbers of a width are below this one
+abbrev pub limit_of : Width → ℕ
+limit_of One = 2 ^ 8
+limit_of Two = 2 ^ 16
+limit_of Four = 2 ^ 32
 
 -- how many bytes a column takes
 abbrev pub size_of : Layout → Column → ℕ
@@ -73,7 +80,7 @@ table_at layout table = layout.rows_at + sum_by (table_size_of layout) (range_wi
 
 -- the place after the last table
 abbrev pub rows_end : Layout → ℕ
-rows_end layout = table_at layout 45
+rows_end layout = table_at layout table_count
 
 -- the place of a row, which is counted from 1
 abbrev pub row_at : Layout → ℕ → ℕ → ℕ
@@ -90,8 +97,7 @@ column_at layout table n k = row_at layout table n + offset_of layout table k
 -- the number that stands in a column of the row at a place
 abbrev pub value_of : List ℕ → Layout → ℕ → ℕ → ℕ → ℕ
 value_of bytes layout table at k =
-    number_of (width_of layout (slice_index_or (columns_of table) k U8)) bytes
-    (at + offset_of layout table k)
+    number_of (width_of layout (column_of table k)) bytes (at + offset_of layout table k)
 
 -- the table has the row
 abbrev pub has_row : Layout → ℕ → ℕ → Bool
@@ -111,8 +117,17 @@ abbrev pub row_of : List ℕ → Layout → ℕ → ℕ → Option (List ℕ)
 row_of bytes layout table n =
     option_map (values_of bytes layout table) (row_place_of layout table n)
 
+-- the table has the row, and the rows have the column
+abbrev pub has_place : Layout → ℕ → ℕ → ℕ → Bool
+has_place layout table n k = has_row layout table n && nat_lt k (length (columns_of table))
+
 -- the place of a column of a row, where the table has both
 abbrev pub place_of : Layout → ℕ → ℕ → ℕ → Option ℕ
 place_of layout table n k =
-    if has_row layout table n && nat_lt k (length (columns_of table))
-    then Some (column_at layout table n k) else None
+    if has_place layout table n k then Some (column_at layout table n k) else None
+
+-- the number that stands in a column of a row, where the table has both
+abbrev pub number_in_row : List ℕ → Layout → ℕ → ℕ → ℕ → Option ℕ
+number_in_row bytes layout table n k =
+    if has_place layout table n k then Some (value_of bytes layout table (row_at layout table n) k)
+    else None

@@ -4,11 +4,12 @@ use Rattle.std.specs.Prelude.{ℕ, ◌+◌, ◌*◌, ◌^◌, ◌≡◌, ◌<◌
 use Rattle.std.specs.List.{list_all, range_with_len}
 use Rattle.std.specs.Int.{w32, w64}
 use Rattle.cli_words.specs.Number.{number_at}
-use Rattle.cli_words.specs.Check.{Fault, check}
+use Rattle.cli_words.specs.Check.{check}
+use Rattle.cli_words.specs.declared.check.CheckCode.TheVariants as code
+use Rattle.cli_words.specs.declared.check.FailedCheck.{FailedCheck}
 use Rattle.cli_words.specs.declared.span.Span.{Span}
 use Rattle.metadata_tables.specs.declared.layout.Layout.{Layout}
-use Rattle.metadata_tables.specs.declared.fault.TableFault.{TableFault}
-use Rattle.metadata_tables.specs.declared.fault.TableFault.TheVariants.{Bad}
+use Rattle.metadata_tables.specs.Tables.{table_count}
 use Rattle.metadata_tables.specs.Columns.{columns_of}
 use Rattle.metadata_tables.specs.Layout.{is_set, rows_end}
 
@@ -31,7 +32,7 @@ count_in bytes at table =
 
 -- how many rows each of the tables 00 to 2C is said to have
 unfoldable pub counts_of : List ℕ → ℕ → List ℕ
-counts_of bytes at = map (count_in bytes at) (range_with_len 0 45)
+counts_of bytes at = map (count_in bytes at) (range_with_len 0 table_count)
 
 -- what the stream at a place says of its tables
 abbrev pub layout_of : List ℕ → ℕ → Layout
@@ -65,13 +66,11 @@ are_allowed bytes stream = list_all (is_allowed bytes stream) (range_with_len 0 
 abbrev pub lies_whole : List ℕ → Span → Bool
 lies_whole bytes stream = nat_le (rows_end (layout_of bytes stream.at)) (stream.at + stream.len)
 
--- the checks of a stream, in order: 12 `table` and 9 `bounds`, at the stream (the codes are own)
-abbrev pub checks : List ℕ → Span → List (Option Fault)
+-- the checks of a stream, in order, both at the stream (own)
+abbrev pub checks : List ℕ → Span → List (Option FailedCheck)
 checks bytes stream =
-    check (are_allowed bytes stream) 12 stream.at ∷ check (lies_whole bytes stream) 9 stream.at ∷ []
-
-abbrev pub fault_of : TableFault → Fault
-fault_of (Bad code at) = record { code = code; at = at }
+    check (are_allowed bytes stream) code.Table stream.at
+    ∷ check (lies_whole bytes stream) code.Bounds stream.at ∷ []
 
 -- the places of the counts of the tables 00 to 3F, and of what follows them
 abbrev pub ArePlaces : List ℕ → ℕ → List ℕ → Type 0

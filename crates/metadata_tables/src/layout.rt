@@ -3,9 +3,10 @@ ghost use Rattle.std.specs.Prelude.{◌≡◌, ℕ, ◌+◌, ◌-◌, ◌*◌, �
 ghost use Rattle.std.specs.List.{list_all, sum_by};
 ghost use Rattle.metadata_tables.specs.Columns.{tag_bits_of, tables_of};
 ghost use Rattle.metadata_tables.specs.Layout as spec;
+ghost use Rattle.metadata_tables.specs.Tables.{table_count};
 
-use crate::row::Row;
-use crate::schema::{CodedIndex, Column, columns};
+use crate::schema::{CodedIndex, Column};
+use crate::table::TABLE_COUNT;
 use cli_words::{u16_at, u32_at};
 
 /// How many bytes a number takes.
@@ -25,7 +26,7 @@ pub struct Layout {
     /// The bits of value 1, 2 and 4 say that an index into `#Strings`, `#GUID` and `#Blob` has four bytes.
     pub heap_sizes: u8,
     /// How many rows each of the tables 00 to 2C has.
-    pub counts: [u32; 45],
+    pub counts: [u32; TABLE_COUNT],
 }
 
 impl Width {
@@ -44,7 +45,8 @@ impl Width {
     /// The number from byte `at` on.
     pub fn number(self, bytes: &[u8], at: usize) -> u32
         requires { at + spec.len_of self ≤ length bytes.now }
-        ensures { result ≡ spec.number_of self bytes.now at }
+        ensures value { result ≡ spec.number_of self bytes.now at }
+        ensures range { result < spec.limit_of self }
     {
         match self {
             Width::One => u32::from(bytes[at]),
@@ -71,7 +73,7 @@ impl Layout {
     /// How many rows a table has.
     pub fn count(&self, table: u8) -> u32
         ensures value { result ≡ spec.count_of self.now table }
-        ensures known { 0 < result → table < 45 }
+        ensures known { 0 < result → table < table_count }
     {
         self.counts.get(usize::from(table)).copied().unwrap_or(0)
     }
@@ -112,60 +114,10 @@ impl Layout {
             Column::Strings => self.heap_width(0),
             Column::Guid => self.heap_width(1),
             Column::Blob => self.heap_width(2),
-            Column::Table(table) | Column::Run(table) => {
+            Column::Table(table) | Column::List(table) => {
                 Width::of_index(self.is_narrow(0, table))
             }
             Column::Coded(index) => Width::of_index(self.are_narrow(index)),
         }
-    }
-
-    /// How many bytes columns take.
-    pub fn size(&self, columns: &[Column]) -> usize
-        requires { length columns.now ≤ 9 }
-        ensures value { result ≡ sum_by (spec.size_of self.now) columns.now }
-        ensures small { result ≤ 36 }
-    {
-        let mut size = 0;
-        for column in columns {
-            size += self.width(*column).len();
-        }
-        size
-    }
-
-    /// How many bytes a row takes.
-    pub fn row_size(&self, table: u8) -> usize
-        ensures value { result ≡ spec.row_size_of self.now table }
-        ensures small { result ≤ 36 }
-    {
-        self.size(columns(table))
-    }
-
-    /// The row of a table that stands at `at`.
-    pub fn row(&self, bytes: &[u8], table: u8, at: usize) -> Row
-        requires { at + spec.row_size_of self.now table ≤ length bytes.now }
-        ensures { result ≡ spec.values_of bytes.now self.now table at }
-    {
-        let mut row = Row::new();
-        let mut place = at;
-        for column in columns(table) {
-            let width = self.width(*column);
-            row.push(width.number(bytes, place));
-            place += width.len();
-        }
-        row
-    }
-
-    /// The places of the tables 00 to 2C, and the place after the last.
-    pub fn starts(&self) -> [usize; 46]
-        requires { self.now.rows_at < 2 ^ 33 }
-        ensures { (k : ℕ) → k < 46 → slice_index result k ≡ spec.table_at self.now k }
-    {
-        let mut starts = [self.rows_at; 46];
-        for table in 0..45_u8 {
-            let size = self.count(table) as usize * self.row_size(table);
-            let index = usize::from(table);
-            starts[index + 1] = starts[index] + size;
-        }
-        starts
     }
 }

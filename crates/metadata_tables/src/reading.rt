@@ -1,11 +1,13 @@
 //! The counts at the head of a stream.
 ghost use Rattle.std.specs.Prelude.{◌≡◌, ◌+◌, ◌*◌, if◌then◌else◌, ◌<◌, ◌≤◌, length, slice_index};
 ghost use Rattle.std.specs.Prelude.{IsTrue};
+ghost use Rattle.cli_words.specs.Span.{LiesIn};
 ghost use Rattle.metadata_tables.specs.Layout.{is_set};
 ghost use Rattle.metadata_tables.specs.Reading as spec;
 
 use crate::layout::{Layout, is_set};
 use crate::schema::columns;
+use crate::table::TABLE_COUNT;
 use cli_words::{Span, u32_at, u64_at};
 
 /// The bits of the tables that the stream at `at` has.
@@ -57,7 +59,7 @@ fn count(bytes: &[u8], at: usize, place: usize, table: u8) -> u32
 
 fn is_allowed(bytes: &[u8], stream: Span, place: usize, table: u8) -> bool
     requires head { 24 ≤ stream.len }
-    requires lies { stream.at + stream.len ≤ length bytes.now }
+    requires lies { LiesIn (length bytes.now) stream }
     requires bit { table < 64 }
     requires place { place ≡ spec.count_at bytes.now stream.at table }
     ensures { result ≡ spec.is_allowed bytes.now stream table }
@@ -71,7 +73,7 @@ fn is_allowed(bytes: &[u8], stream: Span, place: usize, table: u8) -> bool
 /// No table of the stream is refused, and no count that lies whole in it is 2^24 or more.
 pub fn are_allowed(bytes: &[u8], stream: Span, places: &[usize; 65]) -> bool
     requires head { 24 ≤ stream.len }
-    requires lies { stream.at + stream.len ≤ length bytes.now }
+    requires lies { LiesIn (length bytes.now) stream }
     requires places { spec.ArePlaces bytes.now stream.at places.now }
     ensures { result ≡ spec.are_allowed bytes.now stream }
 {
@@ -90,8 +92,8 @@ pub fn read_layout(bytes: &[u8], at: usize, places: &[usize; 65]) -> Layout
     requires lies { spec.count_at bytes.now at 64 ≤ length bytes.now }
     ensures { result ≡ spec.layout_of bytes.now at }
 {
-    let mut counts = [0; 45];
-    for table in 0..45_u8 {
+    let mut counts = [0; TABLE_COUNT];
+    for table in 0..TABLE_COUNT as u8 {
         let index = usize::from(table);
         counts[index] = count(bytes, at, places[index], table);
     }

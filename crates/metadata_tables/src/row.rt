@@ -1,12 +1,13 @@
 //! A row of a table.
 ghost use Rattle.std.specs.Prelude.{◌≡◌, ◌+◌, ◌<◌, ◌++◌, ◌∷◌, [], length, slice_get};
 
+use crate::schema::COLUMN_LIMIT;
 use std::marker::Model;
 
 /// A row of a table: the number that stands in each column.
 #[derive(Drop)]
 pub struct Row {
-    values: [u32; 9],
+    values: [u32; COLUMN_LIMIT],
     len: usize,
 }
 
@@ -33,7 +34,7 @@ impl Row {
         ensures { result ≡ [] }
     {
         Row {
-            values: [0; 9],
+            values: [0; COLUMN_LIMIT],
             len: 0,
         }
     }

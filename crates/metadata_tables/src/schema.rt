@@ -3,12 +3,18 @@ ghost use Rattle.std.specs.Prelude.{◌≡◌, ◌^◌, ◌≤◌, [], length, m
 ghost use Rattle.metadata_tables.specs.Columns.{columns_of, tag_bits_of, first_tag_of, tables_of};
 ghost use Rattle.metadata_tables.specs.Columns.{table_of, target_of};
 
+use crate::table::{
+    ASSEMBLY, ASSEMBLY_REF, DECL_SECURITY, EVENT, EXPORTED_TYPE, FIELD, FILE, GENERIC_PARAM,
+    GENERIC_PARAM_CONSTRAINT, INTERFACE_IMPL, MANIFEST_RESOURCE, MEMBER_REF, METHOD_DEF,
+    METHOD_SPEC, MODULE, MODULE_REF, PARAM, PROPERTY, STAND_ALONE_SIG, TABLE_COUNT, TYPE_DEF,
+    TYPE_REF, TYPE_SPEC,
+};
 use CodedIndex::{
     CustomAttributeType, HasConstant, HasCustomAttribute, HasDeclSecurity, HasFieldMarshal,
     HasSemantics, Implementation, MemberForwarded, MemberRefParent, MethodDefOrRef,
     ResolutionScope, TypeDefOrRef, TypeOrMethodDef,
 };
-use Column::{Blob, Coded, Guid, Run, Strings, Table, U8, U16, U32};
+use Column::{Blob, Coded, Guid, List, Strings, Table, U8, U16, U32};
 
 /// What stands in a column. ECMA-335 II.22, II.24.2.6.
 #[derive(Clone, Copy, PartialEq, Eq, Debug)]
@@ -27,8 +33,9 @@ pub enum Column {
     Blob,
     /// A row of the table of this number.
     Table(u8),
-    /// The first row of a run of rows of the table of this number.
-    Run(u8),
+    /// A list of rows of the table of this number: its first row. The list ends where that of the
+    /// row after begins.
+    List(u8),
     /// A row of one of several tables.
     Coded(CodedIndex),
 }
@@ -51,7 +58,10 @@ pub enum CodedIndex {
     TypeOrMethodDef,
 }
 
-const TABLES: [&[Column]; 45] = [
+/// No table has more columns.
+pub(crate) const COLUMN_LIMIT: usize = 9;
+
+const TABLES: [&[Column]; TABLE_COUNT] = [
     // 00 Module: Generation, Name, Mvid, EncId, EncBaseId.
     &[U16, Strings, Guid, Guid, Guid],
     // 01 TypeRef: ResolutionScope, Name, Namespace.
@@ -62,8 +72,8 @@ const TABLES: [&[Column]; 45] = [
         Strings,
         Strings,
         Coded(TypeDefOrRef),
-        Run(0x04),
-        Run(0x06),
+        List(FIELD),
+        List(METHOD_DEF),
     ],
     // 03 FieldPtr is refused.
     &[],
@@ -72,13 +82,13 @@ const TABLES: [&[Column]; 45] = [
     // 05 MethodPtr is refused.
     &[],
     // 06 MethodDef: RVA, ImplFlags, Flags, Name, Signature, ParamList.
-    &[U32, U16, U16, Strings, Blob, Run(0x08)],
+    &[U32, U16, U16, Strings, Blob, List(PARAM)],
     // 07 ParamPtr is refused.
     &[],
     // 08 Param: Flags, Sequence, Name.
     &[U16, U16, Strings],
     // 09 InterfaceImpl: Class, Interface.
-    &[Table(0x02), Coded(TypeDefOrRef)],
+    &[Table(TYPE_DEF), Coded(TypeDefOrRef)],
     // 0A MemberRef: Class, Name, Signature.
     &[Coded(MemberRefParent), Strings, Blob],
     // 0B Constant: Type, padding, Parent, Value.
@@ -90,35 +100,39 @@ const TABLES: [&[Column]; 45] = [
     // 0E DeclSecurity: Action, Parent, PermissionSet.
     &[U16, Coded(HasDeclSecurity), Blob],
     // 0F ClassLayout: PackingSize, ClassSize, Parent.
-    &[U16, U32, Table(0x02)],
+    &[U16, U32, Table(TYPE_DEF)],
     // 10 FieldLayout: Offset, Field.
-    &[U32, Table(0x04)],
+    &[U32, Table(FIELD)],
     // 11 StandAloneSig: Signature.
     &[Blob],
     // 12 EventMap: Parent, EventList.
-    &[Table(0x02), Run(0x14)],
+    &[Table(TYPE_DEF), List(EVENT)],
     // 13 EventPtr is refused.
     &[],
     // 14 Event: EventFlags, Name, EventType.
     &[U16, Strings, Coded(TypeDefOrRef)],
     // 15 PropertyMap: Parent, PropertyList.
-    &[Table(0x02), Run(0x17)],
+    &[Table(TYPE_DEF), List(PROPERTY)],
     // 16 PropertyPtr is refused.
     &[],
     // 17 Property: Flags, Name, Type.
     &[U16, Strings, Blob],
     // 18 MethodSemantics: Semantics, Method, Association.
-    &[U16, Table(0x06), Coded(HasSemantics)],
+    &[U16, Table(METHOD_DEF), Coded(HasSemantics)],
     // 19 MethodImpl: Class, MethodBody, MethodDeclaration.
-    &[Table(0x02), Coded(MethodDefOrRef), Coded(MethodDefOrRef)],
+    &[
+        Table(TYPE_DEF),
+        Coded(MethodDefOrRef),
+        Coded(MethodDefOrRef),
+    ],
     // 1A ModuleRef: Name.
     &[Strings],
     // 1B TypeSpec: Signature.
     &[Blob],
     // 1C ImplMap: MappingFlags, MemberForwarded, ImportName, ImportScope.
-    &[U16, Coded(MemberForwarded), Strings, Table(0x1A)],
+    &[U16, Coded(MemberForwarded), Strings, Table(MODULE_REF)],
     // 1D FieldRVA: RVA, Field.
-    &[U32, Table(0x04)],
+    &[U32, Table(FIELD)],
     // 1E EncLog is refused.
     &[],
     // 1F EncMap is refused.
@@ -132,9 +146,9 @@ const TABLES: [&[Column]; 45] = [
     // 23 AssemblyRef: four words of the version, Flags, PublicKeyOrToken, Name, Culture, HashValue.
     &[U16, U16, U16, U16, U32, Blob, Strings, Strings, Blob],
     // 24 AssemblyRefProcessor: Processor, AssemblyRef.
-    &[U32, Table(0x23)],
+    &[U32, Table(ASSEMBLY_REF)],
     // 25 AssemblyRefOS: OSPlatformID, OSMajorVersion, OSMinorVersion, AssemblyRef.
-    &[U32, U32, U32, Table(0x23)],
+    &[U32, U32, U32, Table(ASSEMBLY_REF)],
     // 26 File: Flags, Name, HashValue.
     &[U32, Strings, Blob],
     // 27 ExportedType: Flags, TypeDefId, TypeName, TypeNamespace, Implementation.
@@ -142,13 +156,13 @@ const TABLES: [&[Column]; 45] = [
     // 28 ManifestResource: Offset, Flags, Name, Implementation.
     &[U32, U32, Strings, Coded(Implementation)],
     // 29 NestedClass: NestedClass, EnclosingClass.
-    &[Table(0x02), Table(0x02)],
+    &[Table(TYPE_DEF), Table(TYPE_DEF)],
     // 2A GenericParam: Number, Flags, Owner, Name.
     &[U16, U16, Coded(TypeOrMethodDef), Strings],
     // 2B MethodSpec: Method, Instantiation.
     &[Coded(MethodDefOrRef), Blob],
     // 2C GenericParamConstraint: Owner, Constraint.
-    &[Table(0x2A), Coded(TypeDefOrRef)],
+    &[Table(GENERIC_PARAM), Coded(TypeDefOrRef)],
 ];
 
 /// The columns of a table, from the left: none exactly where the table is refused.
@@ -225,22 +239,42 @@ impl CodedIndex {
         ensures { result.now ≡ tables_of self }
     {
         match self {
-            TypeDefOrRef => &[0x02, 0x01, 0x1B],
-            HasConstant => &[0x04, 0x08, 0x17],
+            TypeDefOrRef => &[TYPE_DEF, TYPE_REF, TYPE_SPEC],
+            HasConstant => &[FIELD, PARAM, PROPERTY],
             HasCustomAttribute => &[
-                0x06, 0x04, 0x01, 0x02, 0x08, 0x09, 0x0A, 0x00, 0x0E, 0x17, 0x14, 0x11, 0x1A, 0x1B,
-                0x20, 0x23, 0x26, 0x27, 0x28, 0x2A, 0x2C, 0x2B,
+                METHOD_DEF,
+                FIELD,
+                TYPE_REF,
+                TYPE_DEF,
+                PARAM,
+                INTERFACE_IMPL,
+                MEMBER_REF,
+                MODULE,
+                DECL_SECURITY,
+                PROPERTY,
+                EVENT,
+                STAND_ALONE_SIG,
+                MODULE_REF,
+                TYPE_SPEC,
+                ASSEMBLY,
+                ASSEMBLY_REF,
+                FILE,
+                EXPORTED_TYPE,
+                MANIFEST_RESOURCE,
+                GENERIC_PARAM,
+                GENERIC_PARAM_CONSTRAINT,
+                METHOD_SPEC,
             ],
-            HasFieldMarshal => &[0x04, 0x08],
-            HasDeclSecurity => &[0x02, 0x06, 0x20],
-            MemberRefParent => &[0x02, 0x01, 0x1A, 0x06, 0x1B],
-            HasSemantics => &[0x14, 0x17],
-            MethodDefOrRef => &[0x06, 0x0A],
-            MemberForwarded => &[0x04, 0x06],
-            Implementation => &[0x26, 0x23, 0x27],
-            CustomAttributeType => &[0x06, 0x0A],
-            ResolutionScope => &[0x00, 0x1A, 0x23, 0x01],
-            TypeOrMethodDef => &[0x02, 0x06],
+            HasFieldMarshal => &[FIELD, PARAM],
+            HasDeclSecurity => &[TYPE_DEF, METHOD_DEF, ASSEMBLY],
+            MemberRefParent => &[TYPE_DEF, TYPE_REF, MODULE_REF, METHOD_DEF, TYPE_SPEC],
+            HasSemantics => &[EVENT, PROPERTY],
+            MethodDefOrRef => &[METHOD_DEF, MEMBER_REF],
+            MemberForwarded => &[FIELD, METHOD_DEF],
+            Implementation => &[FILE, ASSEMBLY_REF, EXPORTED_TYPE],
+            CustomAttributeType => &[METHOD_DEF, MEMBER_REF],
+            ResolutionScope => &[MODULE, MODULE_REF, ASSEMBLY_REF, TYPE_REF],
+            TypeOrMethodDef => &[TYPE_DEF, METHOD_DEF],
         }
     }
 }

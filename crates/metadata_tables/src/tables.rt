@@ -1,17 +1,23 @@
 //! The tables of a stream.
-ghost use Rattle.std.specs.Prelude.{◌≡◌, ◌+◌, ◌-◌, ◌*◌, ◌^◌, ◌<◌, ◌≤◌, length, Some, None, IfOk};
-ghost use Rattle.std.specs.Prelude.{IfErr, IfSome};
-ghost use Rattle.cli_words.specs.Check.{first_fault};
+ghost use Rattle.std.specs.Prelude.{◌≡◌, ◌+◌, ◌-◌, ◌*◌, ◌^◌, ◌<◌, ◌≤◌, length, IfOk, IfSome};
+ghost use Rattle.std.specs.Prelude.{slice_get};
+ghost use Rattle.std.specs.Option.{option_and_then};
+ghost use Rattle.cli_words.specs.Check.{first_fault, answer};
+ghost use Rattle.cli_words.specs.Span.{LiesIn};
+ghost use Rattle.metadata_tables.specs.Tables.{table_count};
+ghost use Rattle.metadata_tables.specs.Columns.{columns_of, column_of};
 ghost use Rattle.metadata_tables.specs.Layout.{count_of, rows_end, row_of, row_size_of};
-ghost use Rattle.metadata_tables.specs.Layout.{row_place_of, place_of};
-ghost use Rattle.metadata_tables.specs.Reading.{checks, layout_of, fault_of};
+ghost use Rattle.metadata_tables.specs.Layout.{row_place_of, place_of, number_in_row};
+ghost use Rattle.metadata_tables.specs.Layout.{limit_of, width_of};
+ghost use Rattle.metadata_tables.specs.Places.{IsPlaced, column_place};
+ghost use Rattle.metadata_tables.specs.Reading.{checks, layout_of};
 
-use crate::fault::{BOUNDS, TABLE, TableFault};
 use crate::layout::Layout;
+use crate::place::{ColumnPlace, Places, TablePlace};
 use crate::reading::{are_allowed, count_places, read_layout};
 use crate::row::Row;
 use crate::schema::columns;
-use cli_words::Span;
+use cli_words::{CheckCode, FailedCheck, Span};
 use std::marker::Model;
 
 /// How many bytes each heap has that rows point into.
@@ -26,53 +32,52 @@ pub struct HeapSizes {
 #[derive(Drop)]
 pub struct Tables {
     layout: Layout,
-    starts: [usize; 46],
+    places: Places,
 }
 
 impl Model for Tables {
-    ghost use Rattle.std.specs.Prelude.{◌≡◌, ◌<◌, ◌^◌, ℕ, slice_index};
+    ghost use Rattle.std.specs.Prelude.{◌<◌, ◌^◌};
     ghost use Rattle.metadata_tables.specs.declared.layout.Layout.{Layout};
-    ghost use Rattle.metadata_tables.specs.Layout.{table_at, rows_end};
+    ghost use Rattle.metadata_tables.specs.Layout.{rows_end};
+    ghost use Rattle.metadata_tables.specs.Places.{ArePlaced};
 
     ghost Value = { Layout };
 
     ghost view = { λ tables. tables.layout };
 
     ghost invariant = { λ tables. record {
-      placed : (k : ℕ) → k < 46 → slice_index tables.starts k ≡ table_at tables.layout k;
+      placed : ArePlaced tables.layout tables.places;
       near : rows_end tables.layout < 2 ^ 32;
     } };
 }
 
-/// The tables of the stream `#~` that stands at `tables`. `Bad` with the stream's place exactly
-/// where a check fails, with the code of the first that does: 12 where a table is refused or has
-/// 2^24 rows or more by a count that lies whole in the stream, 9 where not all counts and all rows
-/// lie in the stream. How wide an index into a heap is stands in the stream, whatever the sizes of
-/// the heaps are. ECMA-335 II.24.2.6.
-pub fn read_tables(bytes: &[u8], tables: Span, _sizes: HeapSizes) -> Result<Tables, TableFault>
+/// The tables of the stream `#~` that stands at `tables`. A fault with the stream's place exactly
+/// where a check fails, with the code of the first that does: `Table` where a table is refused or
+/// has 2^24 rows or more by a count that lies whole in the stream, `Bounds` where not all counts
+/// and all rows lie in the stream. How wide an index into a heap is stands in the stream, whatever
+/// the sizes of the heaps are. ECMA-335 II.24.2.6.
+pub fn read_tables(bytes: &[u8], tables: Span, _sizes: HeapSizes) -> Result<Tables, FailedCheck>
     requires short { length bytes.now < 2 ^ 32 - 1 }
-    requires lies { tables.at + tables.len ≤ length bytes.now }
+    requires lies { LiesIn (length bytes.now) tables }
     requires head { 24 ≤ tables.len }
-    ensures tables { IfOk result (λ read. (first_fault (checks bytes.now tables) ≡ None)
-        × (read ≡ layout_of bytes.now tables.at) × (rows_end read ≤ length bytes.now)) }
-    ensures fault { IfErr result (λ fault.
-        first_fault (checks bytes.now tables) ≡ Some (fault_of fault)) }
+    ensures tables { result
+        ≡ answer (first_fault (checks bytes.now tables)) (layout_of bytes.now tables.at) }
+    ensures rows { IfOk result (λ read. rows_end read ≤ length bytes.now) }
 {
-    let at = tables.at as u32;
-    let places = count_places(bytes, tables.at);
-    if !are_allowed(bytes, tables, &places) {
-        return Err(TableFault::Bad { code: TABLE, at });
+    let counts = count_places(bytes, tables.at);
+    if !are_allowed(bytes, tables, &counts) {
+        return Err(FailedCheck::of(CheckCode::Table, tables.at));
     }
     let end = tables.at + tables.len;
-    if end < places[64] {
-        return Err(TableFault::Bad { code: BOUNDS, at });
+    if end < counts[64] {
+        return Err(FailedCheck::of(CheckCode::Bounds, tables.at));
     }
-    let layout = read_layout(bytes, tables.at, &places);
-    let starts = layout.starts();
-    if end < starts[45] {
-        return Err(TableFault::Bad { code: BOUNDS, at });
+    let layout = read_layout(bytes, tables.at, &counts);
+    let places = layout.places();
+    if end < places.end {
+        return Err(FailedCheck::of(CheckCode::Bounds, tables.at));
     }
-    Ok(Tables { layout, starts })
+    Ok(Tables { layout, places })
 }
 
 impl Tables {
@@ -91,7 +96,31 @@ impl Tables {
         ensures { result ≡ row_of bytes.now self.now table n }
     {
         let at = self.row_at(table, n)?;
-        Some(self.layout.row(bytes, table, at))
+        let mut row = Row::new();
+        for k in 0..columns(table).len() {
+            row.push(self.column(table, k).number(bytes, at));
+        }
+        Some(row)
+    }
+
+    /// The number in column `k`, counted from 0, of row `n` of a table, counted from 1: that of
+    /// `Row::column`, without the rest of the row. `None` exactly where the table has no such row
+    /// or no such column. `bytes` are to be those that the tables were read from. ECMA-335 II.22,
+    /// II.24.2.6.
+    pub fn number(&self, bytes: &[u8], table: u8, n: u32, k: usize) -> Option<u32>
+        requires { rows_end self.now ≤ length bytes.now }
+        ensures number { result ≡ number_in_row bytes.now self.now table n k }
+        ensures row { result
+            ≡ option_and_then (λ row. slice_get row k) (row_of bytes.now self.now table n) }
+        ensures range { IfSome result (λ number.
+            number < limit_of (width_of self.now (column_of table k))) }
+    {
+        let at = self.row_at(table, n)?;
+        if k < columns(table).len() {
+            Some(self.column(table, k).number(bytes, at))
+        } else {
+            None
+        }
     }
 
     /// The place of column `k`, counted from 0, of row `n`, counted from 1, in bytes from the
@@ -100,23 +129,42 @@ impl Tables {
         ensures { result ≡ place_of self.now table n k }
     {
         let at = self.row_at(table, n)?;
-        let columns = columns(table);
-        if k < columns.len() {
-            Some((at + self.layout.size(&columns[..k])) as u32)
+        if k < columns(table).len() {
+            Some((at + usize::from(self.column(table, k).offset)) as u32)
         } else {
             None
         }
     }
 
+    /// The place of a row, where the table has it.
     fn row_at(&self, table: u8, n: u32) -> Option<usize>
         ensures value { result ≡ row_place_of self.now table n }
         ensures room { IfSome result (λ at. at + row_size_of self.now table ≤ rows_end self.now) }
         ensures near { rows_end self.now < 2 ^ 32 }
+        ensures known { IfSome result (λ at. table < table_count) }
     {
         if n == 0 || self.layout.count(table) < n {
             return None;
         }
-        let size = self.layout.row_size(table);
-        Some(self.starts[usize::from(table)] + (n as usize - 1) * size)
+        let place = self.table(table);
+        Some(place.start + (n as usize - 1) * place.row_size)
+    }
+
+    /// Where a column stands in the rows of a table.
+    #[tactic(auto, using(crate::proofs::SchemaLemmas::short))]
+    fn column(&self, table: u8, k: usize) -> ColumnPlace
+        requires table { table < table_count }
+        requires column { k < length (columns_of table) }
+        ensures { result ≡ column_place self.now table k }
+    {
+        self.table(table).columns[k]
+    }
+
+    /// Where the rows of a table stand.
+    fn table(&self, table: u8) -> &TablePlace
+        requires { table < table_count }
+        ensures { IsPlaced self.now table result.now }
+    {
+        &self.places.tables[usize::from(table)]
     }
 }

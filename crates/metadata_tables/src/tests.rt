@@ -2,8 +2,9 @@
 ghost use Rattle.std.specs.Prelude.{◌≤◌, length, IfOk};
 ghost use Rattle.metadata_tables.specs.Layout.{rows_end};
 
-use crate::{CodedIndex, Column, HeapSizes, TableFault, Tables, columns, read_tables};
-use cli_words::Span;
+use crate::{CodedIndex, Column, HeapSizes, Tables, columns, read_tables};
+use cli_words::CheckCode::{self, Bounds, Table};
+use cli_words::{FailedCheck, Span};
 use std::alloc::{AllocError, Global};
 use std::process::Abort;
 use std::test::Fail;
@@ -27,7 +28,7 @@ const WIDE: &[u8] = &[
     6, 0, 0x78, 0x56, 0x34, 0x12, 5, 0, 0, 0,
 ];
 
-fn read(rt: &impl Abort, bytes: &[u8], at: usize, len: usize) -> Result<Tables, TableFault>
+fn read(rt: &impl Abort, bytes: &[u8], at: usize, len: usize) -> Result<Tables, FailedCheck>
     ensures { IfOk result (λ read. rows_end read ≤ length bytes.now) }
 {
     assert!(rt; bytes.len() < 1_000_000);
@@ -42,18 +43,22 @@ fn read(rt: &impl Abort, bytes: &[u8], at: usize, len: usize) -> Result<Tables, 
     read_tables(bytes, Span { at, len }, sizes)
 }
 
+/// The row has these numbers and no more, read whole as one by one.
 fn row_is(rt: &impl Abort, tables: &Tables, bytes: &[u8], table: u8, n: u32, wanted: &[u32])
     requires { rows_end tables.now ≤ length bytes.now }
 {
     let row = tables.row(bytes, table, n);
-    assert!(rt; row.is_some());
-    if let Some(row) = row {
-        for k in 0..10_usize {
-            assert_eq!(rt;
-                row.column(k),
-                wanted.get(k).copied(),
-                "column {k} of {table}"
-            );
+    assert_eq!(rt; row.is_some(), !wanted.is_empty());
+    for k in 0..10_usize {
+        let number = wanted.get(k).copied();
+        assert_eq!(rt;
+            tables.number(bytes, table, n, k),
+            number,
+            "column {k} of {table}"
+        );
+        assert_eq!(rt; tables.column_at(table, n, k).is_some(), number.is_some());
+        if let Some(row) = &row {
+            assert_eq!(rt; row.column(k), number);
         }
     }
 }
@@ -61,33 +66,24 @@ fn row_is(rt: &impl Abort, tables: &Tables, bytes: &[u8], table: u8, n: u32, wan
 #[test]
 fn reads_rows(rt: HostRuntime) -> Result<(), Fail> {
     let tables = read(&rt, SMALL, 2, 90)?;
-    for (table, count) in [
-        (0, 1),
-        (1, 2),
-        (2, 0),
-        (0x0B, 1),
-        (0x20, 1),
-        (0x2D, 0),
-        (255, 0),
-    ] {
-        assert_eq!(rt; tables.count(table), count);
-        assert!(rt; tables.row(SMALL, table, 0).is_none());
-        assert!(rt; tables.row(SMALL, table, count + 1).is_none());
-    }
-    let rows: [(u8, u32, &[u32]); 5] = [
+    let rows: [(u8, u32, &[u32]); 10] = [
+        (0, 0, &[]),
         (0, 1, &[0, 1, 1, 0, 0]),
+        (0, 2, &[]),
         (1, 1, &[6, 10, 15]),
         (1, 2, &[10, 0xFFFF, 0x1234]),
+        (1, 3, &[]),
+        (2, 1, &[]),
         (0x0B, 1, &[8, 0, 4, 0x21]),
         (0x20, 1, &[0x8004, 1, 2, 3, 4, 1, 7, 11, 0]),
+        (255, 1, &[]),
     ];
     for (table, n, wanted) in rows {
         row_is(&rt, &tables, SMALL, table, n, wanted);
     }
+    assert_eq!(rt; tables.count(1), 2);
     assert_eq!(rt; tables.column_at(1, 2, 2), Some(62));
     assert_eq!(rt; tables.column_at(0x20, 1, 8), Some(90));
-    assert_eq!(rt; tables.column_at(1, 2, 3), None);
-    assert_eq!(rt; tables.column_at(1, 3, 0), None);
     let tables = read(&rt, WIDE, 0, 60)?;
     row_is(&rt, &tables, WIDE, 0, 1, &[0, 1, 2, 3, 0x0100_0004]);
     row_is(&rt, &tables, WIDE, 4, 1, &[6, 0x1234_5678, 5]);
@@ -106,67 +102,57 @@ fn stream(alloc: Global, valid: u64, counts: &[u32], len: usize) -> Result<Vec<u
     Ok(bytes)
 }
 
+/// MemberRef, ModuleRef and ImplMap: the count of ModuleRef decides how wide indexes into it are.
+const INDEXED: u64 = (1 << 0x0A) + (1 << 0x1A) + (1 << 0x1C);
+
 #[test]
 fn refuses_streams(rt: HostRuntime) -> Result<(), Fail> {
-    let rows: [(u64, &[u32], usize, Option<u16>); 22] = [
+    let rows: [(u64, &[u32], usize, Option<CheckCode>); 30] = [
         (0, &[], 24, None),
-        (1, &[], 24, Some(9)),
-        (1, &[1], 27, Some(9)),
+        (1, &[], 24, Some(Bounds)),
+        (1, &[1], 27, Some(Bounds)),
         (1, &[0], 28, None),
-        (1, &[1], 37, Some(9)),
+        (1, &[1], 37, Some(Bounds)),
         (1, &[1], 38, None),
-        (1, &[0x00FF_FFFF], 28, Some(9)),
-        (1, &[0x0100_0000], 28, Some(12)),
-        (1, &[0x0100_0000], 27, Some(9)),
-        (3, &[0, 0x0100_0000], 31, Some(9)),
-        (3, &[0, 0x0100_0000], 32, Some(12)),
-        (1 << 0x03, &[0], 28, Some(12)),
-        (1 << 0x05, &[0], 28, Some(12)),
-        (1 << 0x07, &[0], 28, Some(12)),
-        (1 << 0x13, &[0], 28, Some(12)),
-        (1 << 0x16, &[0], 28, Some(12)),
-        (1 << 0x1E, &[0], 28, Some(12)),
-        (1 << 0x1F, &[0], 28, Some(12)),
+        (1, &[0x00FF_FFFF], 28, Some(Bounds)),
+        (1, &[0x0100_0000], 28, Some(Table)),
+        (1, &[0x0100_0000], 27, Some(Bounds)),
+        (3, &[0, 0x0100_0000], 31, Some(Bounds)),
+        (3, &[0, 0x0100_0000], 32, Some(Table)),
+        (1 << 0x03, &[0], 28, Some(Table)),
+        (1 << 0x05, &[0], 28, Some(Table)),
+        (1 << 0x07, &[0], 28, Some(Table)),
+        (1 << 0x13, &[0], 28, Some(Table)),
+        (1 << 0x16, &[0], 28, Some(Table)),
+        (1 << 0x1E, &[0], 28, Some(Table)),
+        (1 << 0x1F, &[0], 28, Some(Table)),
         (1 << 0x2C, &[1], 32, None),
-        (1 << 0x2D, &[], 24, Some(12)),
-        (1 << 0x3F, &[0], 28, Some(12)),
-        ((1 << 0x3F) + 1, &[1], 28, Some(12)),
+        (1 << 0x2D, &[], 24, Some(Table)),
+        (1 << 0x3F, &[0], 28, Some(Table)),
+        ((1 << 0x3F) + 1, &[1], 28, Some(Table)),
+        (INDEXED, &[1, 8_191, 1], 16_432, None),
+        (INDEXED, &[1, 8_191, 1], 16_431, Some(Bounds)),
+        (INDEXED, &[1, 8_192, 1], 16_436, None),
+        (INDEXED, &[1, 8_192, 1], 16_435, Some(Bounds)),
+        (INDEXED, &[1, 65_535, 1], 131_122, None),
+        (INDEXED, &[1, 65_535, 1], 131_121, Some(Bounds)),
+        (INDEXED, &[1, 65_536, 1], 131_126, None),
+        (INDEXED, &[1, 65_536, 1], 131_125, Some(Bounds)),
     ];
     for (valid, counts, len, wanted) in rows {
         let bytes = stream(rt.alloc(), valid, counts, len)?;
-        let code = match read(&rt, bytes.as_slice(), 0, len) {
-            Ok(_) => None,
-            Err(TableFault::Bad { code, at }) => {
-                assert_eq!(rt; at, 0);
-                Some(code)
-            }
-        };
-        assert_eq!(rt; code, wanted, "tables {valid} in {len} bytes");
+        let failed = read(&rt, bytes.as_slice(), 0, len).err();
+        assert_eq!(rt;
+            failed.map(|failed| failed.code),
+            wanted,
+            "tables {valid} in {len} bytes"
+        );
     }
-    assert!(rt;
-        matches!(
-            read(&rt, SMALL, 2, 89),
-            Err(TableFault::Bad { code: 9, at: 2 })
-        )
-    );
-    Ok(())
-}
-
-/// Rows of MemberRef, ImplMap and ModuleRef, whose count decides how wide indexes into it are.
-#[test]
-fn widens_indexes(rt: HostRuntime) -> Result<(), Fail> {
-    for (count, len) in [
-        (8_191_u32, 36 + 6 + 8 + 2 * 8_191_usize),
-        (8_192, 36 + 8 + 8 + 2 * 8_192),
-        (65_535, 36 + 8 + 8 + 2 * 65_535),
-        (65_536, 36 + 8 + 10 + 2 * 65_536),
-    ] {
-        let valid = (1 << 0x0A) + (1 << 0x1A) + (1 << 0x1C);
-        let bytes = stream(rt.alloc(), valid, &[1, count, 1], len)?;
-        let tables = read(&rt, bytes.as_slice(), 0, len)?;
-        assert_eq!(rt; tables.count(0x1A), count);
-        assert!(rt; read(&rt, bytes.as_slice(), 0, len - 1).is_err());
-    }
+    let failed = FailedCheck {
+        code: Bounds,
+        at: 2,
+    };
+    assert_eq!(rt; read(&rt, SMALL, 2, 89).err(), Some(failed));
     Ok(())
 }
 
@@ -176,7 +162,6 @@ fn names_targets(rt: HostRuntime) {
         columns(0x2B),
         [Column::Coded(CodedIndex::MethodDefOrRef), Column::Blob].as_slice()
     );
-    assert!(rt; columns(0x1F).is_empty());
     let rows = [
         (CodedIndex::TypeDefOrRef, 0x49, Some((0x01, 0x12))),
         (CodedIndex::TypeDefOrRef, 0x4B, None),
@@ -184,7 +169,6 @@ fn names_targets(rt: HostRuntime) {
         (CodedIndex::HasCustomAttribute, 0x15, Some((0x2B, 0))),
         (CodedIndex::HasCustomAttribute, 0x16, None),
         (CodedIndex::CustomAttributeType, 0, None),
-        (CodedIndex::CustomAttributeType, 0x0A, Some((0x06, 1))),
         (CodedIndex::CustomAttributeType, 0x0B, Some((0x0A, 1))),
         (CodedIndex::CustomAttributeType, 0x0C, None),
     ];

@@ -1,16 +1,8 @@
--- What a PE file is read as: the first fault, or where its parts lie (own).
-use Rattle.std.specs.Prelude.{ℕ, List, Option, Some, None, Result, Ok, Err}
-use Rattle.cli_words.specs.Check.{Fault}
-use Rattle.pe_image.specs.declared.fault.PeFault.{PeFault}
-use Rattle.pe_image.specs.declared.fault.PeFault.TheVariants.{Bad}
+-- What a PE file is read as: where its parts lie (own).
+use Rattle.std.specs.Prelude.{ℕ, List}
 use Rattle.pe_image.specs.declared.pe.Pe.{Pe}
 use Rattle.pe_image.specs.Section.{section_count, sections_place}
 use Rattle.pe_image.specs.Layout.{signature_place, directory_place, cli_place, metadata, found}
-
--- a value, unless there is a fault
-abbrev pub answer : {A : Type 0} → Option Fault → A → Result A PeFault
-answer None value = Ok value
-answer (Some fault) value = Err (Bad fault.code fault.at)
 
 -- where the parts of a file lie that passes the checks
 abbrev pub pe_of : List ℕ → Pe

@@ -1,30 +1,27 @@
 //! Reading the headers of a PE file, down to the place of its metadata.
 ghost use Rattle.std.specs.Prelude.{◌≡◌, ◌+◌, ◌-◌, ◌^◌, ◌<◌, ◌≤◌, length, IfOk};
-ghost use Rattle.cli_words.specs.Check.{first_fault};
+ghost use Rattle.cli_words.specs.Check.{first_fault, answer};
 ghost use Rattle.pe_image.specs.Layout.{signature_place, directory_place};
 ghost use Rattle.pe_image.specs.Layout.{cli_place, metadata, found};
 ghost use Rattle.pe_image.specs.Checks.{header_checks, optional_checks};
 ghost use Rattle.pe_image.specs.Checks.{cli_checks, metadata_checks, pe_checks};
-ghost use Rattle.pe_image.specs.Reading.{answer, pe_of};
+ghost use Rattle.pe_image.specs.Reading.{pe_of};
 
-use crate::fault::PeFault;
 use crate::pe::Pe;
 use crate::section::{SECTION_HEADER, Sections};
-use cli_words::{Span, u16_at, u32_at};
+use cli_words::{CheckCode, FailedCheck, Span, u16_at, u32_at};
 
-const CUT: u16 = 1;
+/// The bytes of the header that comes first in the file.
+const DOS_HEADER: usize = 0x40;
 
-const NO_MZ: u16 = 2;
+/// Where in it the place of the PE signature stands.
+const SIGNATURE_PLACE: usize = 0x3C;
 
-const NO_PE: u16 = 3;
+/// The bytes of the PE signature and of the file header after it.
+pub(crate) const FILE_HEADER: usize = 24;
 
-const MAGIC: u16 = 4;
-
-const NO_CLI: u16 = 5;
-
-const OUTSIDE: u16 = 6;
-
-const NOT_IL_ONLY: u16 = 7;
+/// Where the length of the optional header stands, from the PE signature on.
+pub(crate) const OPTIONAL_LENGTH: usize = 20;
 
 /// The magic number of an optional header for addresses of 32 bits.
 const PE32: u16 = 0x10B;
@@ -32,20 +29,54 @@ const PE32: u16 = 0x10B;
 /// That of one for addresses of 64 bits.
 const PE32_PLUS: u16 = 0x20B;
 
+/// How many bytes further the data directories stand in the latter.
+const WIDER: usize = 16;
+
+/// Where the count of the data directories stands in the former.
+const DIRECTORY_COUNT: usize = 92;
+
+/// Where directory 14 stands there, which tells of the CLI header.
+const CLI_DIRECTORY: usize = 208;
+
+/// Where that directory ends.
+const CLI_DIRECTORY_END: usize = 216;
+
+/// The least count of directories that has directory 14.
+const LEAST_DIRECTORIES: u32 = 15;
+
 /// The bytes of the CLI header that are read.
 const CLI_HEADER: u32 = 24;
 
-/// The flag of the CLI header that says that all code is IL.
+/// Where the RVA of the metadata stands in the CLI header.
+const METADATA_RVA: usize = 8;
+
+/// Where the length of the metadata stands there.
+const METADATA_LENGTH: usize = 12;
+
+/// Where the flags stand there.
+const FLAGS: usize = 16;
+
+/// The flag that says that all code is IL.
 const IL_ONLY: u32 = 1;
 
-/// Where the parts of an image lie. `Bad` exactly at the first check of `PeFault` that fails, in
-/// this order: the file's first two bytes are `MZ`; it has the word at 3C, and 24 bytes where that
-/// says, which begin with `PE\0\0`; it has the optional header's first half word, which is 10B or
-/// 20B; that header is long enough for directory 14, and the file has it; it counts at least 15
-/// directories, and the RVA of directory 14 is not 0; the file has all section headers; a section
-/// holds the CLI header, and the file has that; its flags say that all code is IL; a section holds
-/// the metadata. ECMA-335 II.25.2, II.25.3.
-pub fn read_pe(bytes: &[u8]) -> Result<Pe, PeFault>
+/// Where the parts of an image lie. Refused exactly at the first check that fails, in this order;
+/// where the file ends within a structure that is read next, that is `Cut`, at the file's length.
+/// The structures are the first two bytes, the word at 3C, the 24 bytes where that says, the half
+/// word after them, the optional header up to the end of directory 14, the section headers and the
+/// CLI header. ECMA-335 II.25.2, II.25.3.
+///
+/// | Check | What is wrong | At which byte |
+/// |---|---|---|
+/// | `NoMz` | the first two bytes are not `MZ` | 0 |
+/// | `NoPe` | no PE signature where the word at 3C says | there |
+/// | `Magic` | the optional header's magic number is neither 10B nor 20B | at it |
+/// | `NoCli` | the optional header is too short for directory 14 | at its length |
+/// | `NoCli` | it counts fewer than 15 directories | at the count |
+/// | `NoCli` | the RVA of directory 14 is 0 | at the directory |
+/// | `Outside` | no section holds the CLI header | at the directory |
+/// | `NotIlOnly` | the code is not IL alone | at the flags |
+/// | `Outside` | no section holds the metadata | at its RVA in the CLI header |
+pub fn read_pe(bytes: &[u8]) -> Result<Pe, FailedCheck>
     requires { length bytes.now < 2 ^ 32 - 1 }
     ensures { result ≡ answer (first_fault (pe_checks bytes.now)) (pe_of bytes.now) }
 {
@@ -63,7 +94,7 @@ pub fn read_pe(bytes: &[u8]) -> Result<Pe, PeFault>
 }
 
 #[tactic(auto, unfolding(crate::specs::Layout::signature_place, crate::specs::Checks::header_checks))]
-fn signature_place(bytes: &[u8]) -> Result<usize, PeFault>
+fn signature_place(bytes: &[u8]) -> Result<usize, FailedCheck>
     requires { length bytes.now < 2 ^ 32 - 1 }
     ensures answer { result
         ≡ answer (first_fault (header_checks bytes.now)) (signature_place bytes.now) }
@@ -73,57 +104,58 @@ fn signature_place(bytes: &[u8]) -> Result<usize, PeFault>
         return Err(cut(bytes));
     }
     if !bytes.starts_with(b"MZ") {
-        return Err(bad(NO_MZ, 0));
+        return Err(FailedCheck::of(CheckCode::NoMz, 0));
     }
-    if bytes.len() < 0x40 {
+    if bytes.len() < DOS_HEADER {
         return Err(cut(bytes));
     }
-    let signature = u32_at(bytes, 0x3C) as usize;
-    if bytes.len() < signature + 24 {
+    let signature = u32_at(bytes, SIGNATURE_PLACE) as usize;
+    if bytes.len() < signature + FILE_HEADER {
         return Err(cut(bytes));
     }
     if !bytes[signature..].starts_with(b"PE\0\0") {
-        return Err(bad(NO_PE, signature));
+        return Err(FailedCheck::of(CheckCode::NoPe, signature));
     }
     Ok(signature)
 }
 
 #[tactic(auto, unfolding(crate::specs::Layout::directory_place, crate::specs::Checks::optional_checks))]
-fn directory_place(bytes: &[u8], signature: usize) -> Result<usize, PeFault>
+fn directory_place(bytes: &[u8], signature: usize) -> Result<usize, FailedCheck>
     requires short { length bytes.now < 2 ^ 32 - 1 }
     requires within { signature + 24 ≤ length bytes.now }
     ensures answer { result ≡ answer (first_fault (optional_checks bytes.now signature))
         (directory_place bytes.now signature) }
     ensures within { IfOk result (λ directory. directory + 8 ≤ length bytes.now) }
 {
-    let optional = signature + 24;
+    let optional = signature + FILE_HEADER;
     if bytes.len() < optional + 2 {
         return Err(cut(bytes));
     }
     let magic = u16_at(bytes, optional);
     if magic != PE32 && magic != PE32_PLUS {
-        return Err(bad(MAGIC, optional));
+        return Err(FailedCheck::of(CheckCode::Magic, optional));
     }
-    let wider = if magic == PE32_PLUS { 16 } else { 0 };
-    if usize::from(u16_at(bytes, signature + 20)) < 216 + wider {
-        return Err(bad(NO_CLI, signature + 20));
+    let wider = if magic == PE32_PLUS { WIDER } else { 0 };
+    let length_place = signature + OPTIONAL_LENGTH;
+    if usize::from(u16_at(bytes, length_place)) < CLI_DIRECTORY_END + wider {
+        return Err(FailedCheck::of(CheckCode::NoCli, length_place));
     }
-    if bytes.len() < optional + 216 + wider {
+    if bytes.len() < optional + CLI_DIRECTORY_END + wider {
         return Err(cut(bytes));
     }
-    let count = optional + 92 + wider;
-    if u32_at(bytes, count) < 15 {
-        return Err(bad(NO_CLI, count));
+    let count = optional + DIRECTORY_COUNT + wider;
+    if u32_at(bytes, count) < LEAST_DIRECTORIES {
+        return Err(FailedCheck::of(CheckCode::NoCli, count));
     }
-    let directory = optional + 208 + wider;
+    let directory = optional + CLI_DIRECTORY + wider;
     if u32_at(bytes, directory) == 0 {
-        return Err(bad(NO_CLI, directory));
+        return Err(FailedCheck::of(CheckCode::NoCli, directory));
     }
     Ok(directory)
 }
 
 #[tactic(auto, unfolding(crate::specs::Layout::cli_place, crate::specs::Checks::cli_checks))]
-fn cli_place(bytes: &[u8], sections: Sections, directory: usize) -> Result<usize, PeFault>
+fn cli_place(bytes: &[u8], sections: Sections, directory: usize) -> Result<usize, FailedCheck>
     requires short { length bytes.now < 2 ^ 32 - 1 }
     requires within { directory + 8 ≤ length bytes.now }
     requires low { sections.at < 2 ^ 33 }
@@ -137,12 +169,12 @@ fn cli_place(bytes: &[u8], sections: Sections, directory: usize) -> Result<usize
     }
     match sections.span(bytes, u32_at(bytes, directory), CLI_HEADER) {
         Some(header) => Ok(header.at),
-        None => Err(bad(OUTSIDE, directory)),
+        None => Err(FailedCheck::of(CheckCode::Outside, directory)),
     }
 }
 
 #[tactic(auto, unfolding(crate::specs::Layout::metadata, crate::specs::Checks::metadata_checks))]
-fn metadata(bytes: &[u8], sections: Sections, cli: usize) -> Result<Span, PeFault>
+fn metadata(bytes: &[u8], sections: Sections, cli: usize) -> Result<Span, FailedCheck>
     requires short { length bytes.now < 2 ^ 32 - 1 }
     requires low { cli < 2 ^ 33 }
     ensures { result
@@ -152,27 +184,20 @@ fn metadata(bytes: &[u8], sections: Sections, cli: usize) -> Result<Span, PeFaul
     if bytes.len() < cli + CLI_HEADER as usize {
         return Err(cut(bytes));
     }
-    if u32_at(bytes, cli + 16) & IL_ONLY == 0 {
-        return Err(bad(NOT_IL_ONLY, cli + 16));
+    if u32_at(bytes, cli + FLAGS) & IL_ONLY == 0 {
+        return Err(FailedCheck::of(CheckCode::NotIlOnly, cli + FLAGS));
     }
-    let (rva, len) = (u32_at(bytes, cli + 8), u32_at(bytes, cli + 12));
-    sections.span(bytes, rva, len).ok_or(bad(OUTSIDE, cli + 8))
+    let rva = u32_at(bytes, cli + METADATA_RVA);
+    let len = u32_at(bytes, cli + METADATA_LENGTH);
+    sections
+        .span(bytes, rva, len)
+        .ok_or(FailedCheck::of(CheckCode::Outside, cli + METADATA_RVA))
 }
 
 /// A structure runs past the end of the file.
-fn cut(bytes: &[u8]) -> PeFault
+fn cut(bytes: &[u8]) -> FailedCheck
     requires { length bytes.now < 2 ^ 32 - 1 }
-    ensures { result ≡ PeFault.Bad 1 (length bytes.now) }
+    ensures { result ≡ record { code = CheckCode.Cut; at = length bytes.now } }
 {
-    bad(CUT, bytes.len())
-}
-
-fn bad(code: u16, at: usize) -> PeFault
-    requires { at < 2 ^ 32 }
-    ensures { result ≡ PeFault.Bad code at }
-{
-    PeFault::Bad {
-        code,
-        at: at as u32,
-    }
+    FailedCheck::of(CheckCode::Cut, bytes.len())
 }

@@ -4,10 +4,23 @@ ghost use Rattle.std.specs.List.{find};
 ghost use Rattle.pe_image.specs.Section.{sections_place, section_count, headers};
 ghost use Rattle.pe_image.specs.Section.{holds, span_from, span_of};
 
+use crate::headers::{FILE_HEADER, OPTIONAL_LENGTH};
 use cli_words::{Span, u16_at, u32_at};
 
 /// The bytes of a section header.
-pub const SECTION_HEADER: usize = 40;
+pub(crate) const SECTION_HEADER: usize = 40;
+
+/// Where in it the place of the section in memory stands.
+const ADDRESS: usize = 12;
+
+/// Where the count of its bytes in the file stands.
+const SIZE: usize = 16;
+
+/// Where the place of these in the file stands.
+const PLACE: usize = 20;
+
+/// Where the count of the sections stands, from the PE signature on.
+const SECTION_COUNT: usize = 6;
 
 /// The section headers of a file: where they begin, and how many there are.
 #[derive(Clone, Copy)]
@@ -25,8 +38,8 @@ impl Sections {
         ensures count { result.count ≡ section_count bytes.now signature }
     {
         Sections {
-            at: signature + 24 + usize::from(u16_at(bytes, signature + 20)),
-            count: u16_at(bytes, signature + 6),
+            at: signature + FILE_HEADER + usize::from(u16_at(bytes, signature + OPTIONAL_LENGTH)),
+            count: u16_at(bytes, signature + SECTION_COUNT),
         }
     }
 
@@ -59,8 +72,8 @@ fn holds(bytes: &[u8], at: usize, rva: u32, len: u32) -> bool
     if bytes.len() < SECTION_HEADER || bytes.len() - SECTION_HEADER < at {
         return false;
     }
-    let address = u64::from(u32_at(bytes, at + 12));
-    let size = u64::from(u32_at(bytes, at + 16));
+    let address = u64::from(u32_at(bytes, at + ADDRESS));
+    let size = u64::from(u32_at(bytes, at + SIZE));
     address <= u64::from(rva) && u64::from(rva) + u64::from(len) <= address + size
 }
 
@@ -69,8 +82,8 @@ fn span_from(bytes: &[u8], at: usize, rva: u32, len: u32) -> Span
     ensures span { result ≡ span_from bytes.now rva len at }
     ensures low { result.at < 2 ^ 33 }
 {
-    let address = u32_at(bytes, at + 12);
-    let place = u32_at(bytes, at + 20);
+    let address = u32_at(bytes, at + ADDRESS);
+    let place = u32_at(bytes, at + PLACE);
     Span {
         at: place as usize + (rva - address) as usize,
         len: len as usize,

@@ -1,7 +1,7 @@
 use Rattle.std.proofs.Common.{◌≡◌, ◌+◌, drop, take, arith, ap, ◌∙◌}
 use Rattle.std.proofs.lemmas.Grind.{common_steps}
 use Rattle.std.proofs.lemmas.List.{take_min}
-use Rattle.meta_heaps.specs.Heaps.{zero_after}
+use Rattle.cli_words.specs.Span.{zero_after}
 use Rattle.meta_heaps.proofs.header.name_len.Goals as goal
 
 pub returns-clause-found : goal.returns-clause-found
