@@ -1,14 +1,15 @@
 -- Paths of instructions.
 use Rattle.std.proofs.Common.{◌≡◌, ℕ, List, [], ◌∷◌, ◌++◌, Option, Some, None, Ok, refl, sym}
 use Rattle.std.proofs.Common.{ap, subst, ◌∙◌, ◌<◌, ◌≤◌, ◌+◌, true, false, cond, nat_eq, nat_le}
-use Rattle.std.proofs.Common.{slice_index, length, arith, leb-true}
+use Rattle.std.proofs.Common.{slice_index, length, arith, leb-true, ◌-◌, zero, suc, ◌⊎◌, inl, inr}
+use Rattle.std.proofs.lemmas.Bool.{cases_lt}
 use Rattle.std.specs.Option.{ok_or, option_and_then}
 use Rattle.il_reader.specs.declared.instruction.Instr.{Instr}
 use Rattle.il_reader.specs.declared.opcode.Form.{Form}
 use Rattle.il_reader.specs.Opcodes.{form_of}
-use Rattle.il_reader.specs.Instructions.{instruction_at, whole, opcode_len, opcode_at}
+use Rattle.il_reader.specs.Instructions.{prefix, instruction_at, whole, opcode_len, opcode_at}
 use Rattle.il_reader.specs.Instructions.{operand_len, operand_at}
-use Rattle.il_reader.specs.Boundaries.{IsNext, IsPath, AreBoundaries, IsBroken}
+use Rattle.il_reader.specs.Offsets.{IsNext, IsPath, AreBoundaries, IsBroken}
 use Rattle.il_reader.proofs.Choices.{present, same}
 
 -- a path goes on over one more instruction
@@ -20,7 +21,7 @@ IsPath-push code from (x ∷ places) at end path next =
 
 opcode_long : (code : List ℕ) (at : ℕ) → 0 < opcode_len code at
 unfolding opcode_len
-opcode_long code at = elim (nat_eq (slice_index code at) 0xFE) as (λ b. 0 < cond b 2 1) [
+opcode_long code at = elim (nat_eq (slice_index code at) prefix) as (λ b. 0 < cond b 2 1) [
   | true ↦ omega arith
   | false ↦ omega arith
 ]
@@ -103,6 +104,35 @@ not_broken code xs at p broken =
 -- a code breaks at one place at most
 pub one_break : (code : List ℕ) (at other : ℕ) → IsBroken code at → IsBroken code other → at ≡ other
 one_break code at other p q = (one_path code 0 p.0 q.0 at other p.1 p.3 q.1 q.3).1
+
+abbrev pub EitherWay : List ℕ → Type 0
+EitherWay code = ((places : List ℕ) × AreBoundaries code places) ⊎ ((at : ℕ) × IsBroken code at)
+
+-- from a place that was come to, either the end is come to or a break
+walk : (code : List ℕ) (steps : ℕ) (behind : List ℕ) (at : ℕ) → IsPath code 0 behind at →
+    at ≤ length code → length code - at ≤ steps → EitherWay code
+walk code zero behind at path within enough =
+    let end : at ≡ length code = omega (arith, within, enough) in
+    inl (behind, subst (IsPath code 0 behind) end path)
+walk code (suc steps) behind at path within enough =
+    elim (cases_lt at (length code)) [
+      | inr past ↦
+          let end : at ≡ length code = omega (arith, within, past) in
+          inl (behind, subst (IsPath code 0 behind) end path)
+      | inl before ↦ elim (instruction_at code at) as (λ o. instruction_at code at ≡ o → EitherWay code) [
+        | None ↦ λ is. inr (at, (behind, path, before, is))
+        | Some found ↦ λ is.
+            let next : IsNext code at found.1 = (found.0, is) in
+            let ends = next_within code at found.1 next in
+            walk code steps (behind ++ at ∷ []) found.1
+            (IsPath-push code 0 behind at found.1 path next) ends.1
+            (omega (arith, enough, ends.0, ends.1))
+      ] refl
+    ]
+
+-- a code has boundaries, or it has a break
+pub boundaries_or_break : (code : List ℕ) → EitherWay code
+boundaries_or_break code = walk code (length code) [] 0 refl (omega arith) (omega arith)
 
 -- what was found where a fault was not given
 pub found : {X E : Type 0} (o : Option X) (e : E) (x : X) → Ok x ≡ ok_or o e → o ≡ Some x

@@ -7,7 +7,7 @@ use Rattle.std.proofs.lemmas.List.FromFn.{map-range_with_len_more, get_or-map-ra
 use Rattle.std.proofs.lemmas.List.FromFn.{length-map-range_with_len}
 use Rattle.il_reader.specs.declared.section.Clause.{Clause}
 use Rattle.il_reader.specs.declared.section.Section.{Section}
-use Rattle.il_reader.specs.Sections.{is_known, clause_at, clause_of, clause_len, clause_count}
+use Rattle.il_reader.specs.Sections.{header_len, is_known, clause_at, clause_of, clause_len, clause_count}
 use Rattle.il_reader.specs.Reading.{section_of}
 
 -- one clause more
@@ -35,17 +35,17 @@ unknown_at f n count below here =
 
 -- how many clauses a section has, by its header
 pub count_is : (bytes : List ℕ) (section : Section) (at len : ℕ) → section ≡ section_of bytes at →
-    len ≡ clause_len section.is_wide → (section.len - 4) / len ≡ clause_count bytes at
+    len ≡ clause_len section.is_wide → (section.len - header_len) / len ≡ clause_count bytes at
 count_is bytes section at len is len-is =
-    ap (λ l. (section.len - 4) / l) len-is
-    ∙ ap (λ (s : Section). (s.len - 4) / clause_len s.is_wide) is
+    ap (λ l. (section.len - header_len) / l) len-is
+    ∙ ap (λ (s : Section). (s.len - header_len) / clause_len s.is_wide) is
 
 -- its n-th clause
 pub clause_is : (bytes : List ℕ) (section : Section) (at len n : ℕ) (clause : Clause) →
     section ≡ section_of bytes at → len ≡ clause_len section.is_wide →
-    clause ≡ clause_at bytes section.is_wide (section.at + 4 + len * n) →
+    clause ≡ clause_at bytes section.is_wide (section.at + header_len + len * n) →
     clause ≡ clause_of bytes at n
 unfolding clause_of
 clause_is bytes section at len n clause is len-is read =
-    read ∙ (ap (λ l. clause_at bytes section.is_wide (section.at + 4 + l * n)) len-is
-    ∙ ap (λ (s : Section). clause_at bytes s.is_wide (s.at + 4 + clause_len s.is_wide * n)) is)
+    read ∙ (ap (λ l. clause_at bytes section.is_wide (section.at + header_len + l * n)) len-is
+    ∙ ap (λ (s : Section). clause_at bytes s.is_wide (s.at + header_len + clause_len s.is_wide * n)) is)

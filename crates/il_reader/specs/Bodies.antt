@@ -9,23 +9,56 @@ use Rattle.il_reader.specs.declared.fault.IlFault.TheVariants.{Bad, OutOfMemory}
 use Rattle.il_reader.specs.declared.body.Body.{Body}
 use Rattle.il_reader.specs.Sections.{AreSections, clauses_in}
 
+-- the two lowest bits of the first byte of a tiny body, and of a fat one (II.25.4.1)
+abbrev pub tiny_form : ℕ
+tiny_form = 2
+
+abbrev pub fat_form : ℕ
+fat_form = 3
+
+-- how many forms these bits tell apart
+abbrev pub forms : ℕ
+forms = 4
+
+-- the maximum stack of a tiny body (II.25.4.2)
+abbrev pub tiny_stack : ℕ
+tiny_stack = 8
+
+-- how many bytes the header of a fat body has, and how many words of four bytes (II.25.4.3)
+abbrev pub header_bytes : ℕ
+header_bytes = 12
+
+abbrev pub header_words : ℕ
+header_words = 3
+
+-- what its length in words is multiplied by in its first two bytes
+abbrev pub words_unit : ℕ
+words_unit = 0x1000
+
+-- the flags that say that sections follow the code, and that the locals begin as zeros and nulls (II.25.4.4)
+abbrev pub more_sections : ℕ
+more_sections = 8
+
+abbrev pub init_locals_flag : ℕ
+init_locals_flag = 0x10
+
 -- the two lowest bits of the first byte tell the forms apart (II.25.4.1)
 abbrev pub form_bits : List ℕ → ℕ → ℕ
-form_bits bytes at = slice_index bytes at % 4
+form_bits bytes at = slice_index bytes at % forms
 
 -- a tiny body's other six bits are how many bytes its code has, which follows (II.25.4.2)
 abbrev pub tiny_len : List ℕ → ℕ → ℕ
-tiny_len bytes at = slice_index bytes at / 4
+tiny_len bytes at = slice_index bytes at / forms
 
 abbrev pub tiny_end : List ℕ → ℕ → ℕ
 tiny_end bytes at = at + 1 + tiny_len bytes at
 
 abbrev pub is_tiny : List ℕ → ℕ → Bool
-is_tiny bytes at = (form_bits bytes at == 2) && nat_le (tiny_end bytes at) (length bytes)
+is_tiny bytes at = (form_bits bytes at == tiny_form) && nat_le (tiny_end bytes at) (length bytes)
 
 abbrev pub tiny_body : List ℕ → ℕ → Body
 tiny_body bytes at = record {
-  max_stack = 8;
+  max_stack = tiny_stack;
   init_locals = false;
   locals = 0;
   code = record { at = at + 1; len = tiny_len bytes at };
@@ -39,26 +72,26 @@ flags_at bytes at = number_at w16 bytes at
 
 -- sections follow the code
 abbrev pub has_sections : List ℕ → ℕ → Bool
-has_sections bytes at = not (bit_and (flags_at bytes at) 8 == 0)
+has_sections bytes at = not (bit_and (flags_at bytes at) more_sections == 0)
 
 -- the locals begin as zeros and nulls
 abbrev pub inits_locals : List ℕ → ℕ → Bool
-inits_locals bytes at = not (bit_and (flags_at bytes at) 0x10 == 0)
+inits_locals bytes at = not (bit_and (flags_at bytes at) init_locals_flag == 0)
 
 abbrev pub fat_len : List ℕ → ℕ → ℕ
 fat_len bytes at = number_at w32 bytes (at + 4)
 
 -- the place after the code, which follows the header
 abbrev pub fat_end : List ℕ → ℕ → ℕ
-fat_end bytes at = at + 12 + fat_len bytes at
+fat_end bytes at = at + header_bytes + fat_len bytes at
 
 abbrev pub has_fat_head : List ℕ → ℕ → Bool
 has_fat_head bytes at =
-    nat_le (at + 12) (length bytes)
-    && ((flags_at bytes at / 0x1000 == 3) && nat_le (fat_end bytes at) (length bytes))
+    nat_le (at + header_bytes) (length bytes)
+    && ((flags_at bytes at / words_unit == header_words) && nat_le (fat_end bytes at) (length bytes))
 
 abbrev pub is_fat : List ℕ → ℕ → Bool
-is_fat bytes at = (form_bits bytes at == 3) && has_fat_head bytes at
+is_fat bytes at = (form_bits bytes at == fat_form) && has_fat_head bytes at
 
 -- what a fat body says, whose sections stand at these places
 abbrev pub fat_body : List ℕ → ℕ → List ℕ → Body
@@ -66,7 +99,7 @@ fat_body bytes at sections = record {
   max_stack = number_at w16 bytes (at + 2);
   init_locals = inits_locals bytes at;
   locals = number_at w32 bytes (at + 8);
-  code = record { at = at + 12; len = fat_len bytes at };
+  code = record { at = at + header_bytes; len = fat_len bytes at };
   clauses = clauses_in bytes sections;
 }
 

@@ -15,13 +15,24 @@ use Rattle.il_reader.specs.declared.instruction.Operand.TheVariants.{Token, Swit
 use Rattle.il_reader.specs.declared.instruction.Instr.{Instr}
 use Rattle.il_reader.specs.Opcodes.{form_of}
 
+-- the first byte of an opcode of two bytes, and that opcode where the second is 0 (III.1.2.1)
+abbrev pub prefix : ℕ
+prefix = 0xFE
+
+abbrev pub long_opcodes : ℕ
+long_opcodes = 0xFE00
+
+-- how many bytes a distance has, and the count before distances
+abbrev pub distance_len : ℕ
+distance_len = 4
+
 -- an opcode is one byte, or FE and a second byte (III.1.2.1)
 unfoldable pub opcode_len : List ℕ → ℕ → ℕ
-opcode_len code at = if slice_index code at == 0xFE then 2 else 1
+opcode_len code at = if slice_index code at == prefix then 2 else 1
 
 unfoldable pub opcode_at : List ℕ → ℕ → ℕ
 opcode_at code at =
-    if slice_index code at == 0xFE then 0xFE00 + slice_index code (at + 1)
+    if slice_index code at == prefix then long_opcodes + slice_index code (at + 1)
     else slice_index code at
 
 -- how many bytes an operand at a place takes
@@ -35,7 +46,7 @@ operand_len code at Int64 = 8
 operand_len code at TokenWord = 4
 operand_len code at ShortBranch = 1
 operand_len code at LongBranch = 4
-operand_len code at Distances = 4 + 4 * number_at w32 code at
+operand_len code at Distances = distance_len + distance_len * number_at w32 code at
 
 -- what it says; the distances of a switch stand after their count
 unfoldable pub operand_at : List ℕ → ℕ → Form → Operand
@@ -49,7 +60,7 @@ operand_at code at TokenWord = Token (number_at w32 code at)
 operand_at code at ShortBranch = Branch (cast_signed w8 (slice_index code at))
 operand_at code at LongBranch = Branch (cast_signed w32 (number_at w32 code at))
 operand_at code at Distances =
-    Switch (record { at = at + 4; len = 4 * number_at w32 code at })
+    Switch (record { at = at + distance_len; len = distance_len * number_at w32 code at })
 
 -- an instruction whose operand has a form, with the place after it, where the code goes on to there
 unfoldable pub whole : List ℕ → ℕ → Form → Option (Instr × ℕ)

@@ -1,6 +1,6 @@
 pub mod Opcodes
 pub mod Instructions
-pub mod Boundaries
+pub mod Offsets
 pub mod Sections
 pub mod Bodies
 pub mod Reading

@@ -6,7 +6,7 @@ use Rattle.cli_words.specs.Number.{number_at}
 use Rattle.il_reader.specs.declared.body.Head.{Head}
 use Rattle.il_reader.specs.declared.section.Section.{Section}
 use Rattle.il_reader.specs.Sections.{is_wide, has_more, section_len}
-use Rattle.il_reader.specs.Bodies.{is_tiny, tiny_len, is_fat, fat_len, has_sections, inits_locals}
+use Rattle.il_reader.specs.Bodies.{tiny_stack, header_bytes, is_tiny, tiny_len, is_fat, fat_len, has_sections, inits_locals}
 
 abbrev pub section_of : List ℕ → ℕ → Section
 section_of bytes at = record {
@@ -18,7 +18,7 @@ section_of bytes at = record {
 
 abbrev pub tiny_head : List ℕ → ℕ → Head
 tiny_head bytes at = record {
-  max_stack = 8;
+  max_stack = tiny_stack;
   init_locals = false;
   locals = 0;
   code = record { at = at + 1; len = tiny_len bytes at };
@@ -30,7 +30,7 @@ fat_head bytes at = record {
   max_stack = number_at w16 bytes (at + 2);
   init_locals = inits_locals bytes at;
   locals = number_at w32 bytes (at + 8);
-  code = record { at = at + 12; len = fat_len bytes at };
+  code = record { at = at + header_bytes; len = fat_len bytes at };
   has_sections = has_sections bytes at;
 }
 

@@ -8,9 +8,44 @@ use Rattle.std.specs.List.{list_all, range_with_len, flat_map}
 use Rattle.cli_words.specs.Number.{number_at}
 use Rattle.il_reader.specs.declared.section.Clause.{Clause}
 
--- the first place at or after another that is a multiple of four
+-- what the place of a section is a multiple of (II.25.4.5)
+abbrev pub alignment : ℕ
+alignment = 4
+
+-- the bits of a section's kind: that it holds exception clauses, among those that say what it holds, that its
+-- clauses have the fat form, and that another section follows (II.25.4.5)
+abbrev pub exceptions : ℕ
+exceptions = 1
+
+abbrev pub kinds : ℕ
+kinds = 0x3F
+
+abbrev pub wide : ℕ
+wide = 0x40
+
+abbrev pub more : ℕ
+more = 0x80
+
+-- how many bytes a section's header has
+abbrev pub header_len : ℕ
+header_len = 4
+
+-- the kinds of clauses (II.25.4.6)
+abbrev pub catch_kind : ℕ
+catch_kind = 0
+
+abbrev pub filter_kind : ℕ
+filter_kind = 1
+
+abbrev pub finally_kind : ℕ
+finally_kind = 2
+
+abbrev pub fault_kind : ℕ
+fault_kind = 4
+
+-- the first place at or after another that is a multiple of it
 abbrev pub aligned : ℕ → ℕ
-aligned at = next_multiple_of at 4
+aligned at = next_multiple_of at alignment
 
 -- the flags of a section's kind, its first byte (II.25.4.5)
 abbrev pub kind_at : List ℕ → ℕ → ℕ
@@ -18,11 +53,11 @@ kind_at bytes at = slice_index bytes at
 
 -- its clauses have the fat form
 abbrev pub is_wide : List ℕ → ℕ → Bool
-is_wide bytes at = not (bit_and (kind_at bytes at) 0x40 == 0)
+is_wide bytes at = not (bit_and (kind_at bytes at) wide == 0)
 
 -- another section follows
 abbrev pub has_more : List ℕ → ℕ → Bool
-has_more bytes at = not (bit_and (kind_at bytes at) 0x80 == 0)
+has_more bytes at = not (bit_and (kind_at bytes at) more == 0)
 
 -- how many bytes the section has, the four of its header included: it says so in three bytes in the
 -- fat form, and in one in the small form
@@ -36,7 +71,7 @@ clause_len true = 24
 clause_len false = 12
 
 abbrev pub clause_count : List ℕ → ℕ → ℕ
-clause_count bytes at = (section_len bytes at - 4) / clause_len (is_wide bytes at)
+clause_count bytes at = (section_len bytes at - header_len) / clause_len (is_wide bytes at)
 
 -- the clause at a place: kind, try, handler, and the class token or the filter's offset
 abbrev pub clause_at : List ℕ → Bool → ℕ → Clause
@@ -60,7 +95,7 @@ clause_at bytes false at = record {
 -- the n-th clause of a section, counted from 0
 unfoldable pub clause_of : List ℕ → ℕ → ℕ → Clause
 clause_of bytes at n =
-    let wide = is_wide bytes at in clause_at bytes wide (at + 4 + clause_len wide * n)
+    let form = is_wide bytes at in clause_at bytes form (at + header_len + clause_len form * n)
 
 -- the clauses of a section, in their order
 abbrev pub clauses_of : List ℕ → ℕ → List Clause
@@ -69,15 +104,16 @@ clauses_of bytes at = map (clause_of bytes at) (range_with_len 0 (clause_count b
 -- catch, filter, finally or fault
 abbrev pub is_known : Clause → Bool
 is_known clause =
-    (clause.kind == 0) || (clause.kind == 1) || (clause.kind == 2) || (clause.kind == 4)
+    (clause.kind == catch_kind) || (clause.kind == filter_kind)
+    || (clause.kind == finally_kind) || (clause.kind == fault_kind)
 
 -- a section stands whole at a place, by a header that says that it holds exception clauses: its
 -- length is that of the header and of so many clauses, with nothing left over
 unfoldable pub has_header : List ℕ → ℕ → Bool
 has_header bytes at =
     let len = section_len bytes at in
-    (bit_and (kind_at bytes at) 0x3F == 1)
-    && (nat_le 4 len && ((len - 4) % clause_len (is_wide bytes at) == 0)
+    (bit_and (kind_at bytes at) kinds == exceptions)
+    && (nat_le header_len len && ((len - header_len) % clause_len (is_wide bytes at) == 0)
     && nat_le (at + len) (length bytes))
 
 -- such a section, each of whose clauses has a known kind

@@ -1,7 +1,8 @@
 //! Method bodies.
-ghost use Rattle.std.specs.Prelude.{◌≡◌, ◌+◌, ◌<◌, ◌≤◌, nat_le, if◌then◌else◌, length, Some};
+ghost use Rattle.std.specs.Prelude.{◌≡◌, ◌<◌, nat_le, if◌then◌else◌, length, Some};
 ghost use Rattle.std.specs.Prelude.{None};
 ghost use Rattle.std.specs.Prelude.{IfOk, IfErr, IfSome};
+ghost use Rattle.cli_words.specs.Span.{LiesIn};
 ghost use Rattle.il_reader.specs.Bodies.{IsBody, HasNoBody, tiny_end, has_fat_head};
 ghost use Rattle.il_reader.specs.Reading.{head_at, tiny_head, fat_head};
 
@@ -9,6 +10,10 @@ use crate::fault::IlFault;
 use crate::section::{Clauses, read_clauses};
 use cli_words::{Span, u16_at, u32_at};
 use std::alloc::Global;
+
+/// How many forms the two lowest bits of a body's first byte tell apart; in a tiny body the other
+/// bits are the length of its code.
+const FORMS: u8 = 4;
 
 /// The two lowest bits of a tiny body's first byte.
 const TINY: u8 = 2;
@@ -24,6 +29,9 @@ const FAT_LEN: usize = 12;
 
 /// The same in words of four bytes, as the header says it.
 const FAT_WORDS: u16 = 3;
+
+/// What that is multiplied by in the header's first two bytes, above the flags.
+const WORDS_UNIT: u16 = 0x1000;
 
 /// The flag that says that sections follow the code.
 const MORE_SECTIONS: u16 = 8;
@@ -53,7 +61,7 @@ pub struct Body {
 pub fn read_body(alloc: Global, bytes: &[u8], at: usize) -> Result<Body, IlFault>
     ensures body { IfOk result (λ body. IsBody bytes.now at body) }
     ensures only { IfOk result (λ body. (other : Body) → IsBody bytes.now at other → other ≡ body) }
-    ensures within { IfOk result (λ body. body.code.at + body.code.len ≤ length bytes.now) }
+    ensures within { IfOk result (λ body. LiesIn (length bytes.now) body.code) }
     ensures fault { IfErr result (HasNoBody bytes.now at) }
 {
     let Some(head) = read_head(bytes, at) else {
@@ -87,9 +95,9 @@ struct Head {
 /// What a body says before its sections, where that and its code stand whole at a place.
 fn read_head(bytes: &[u8], at: usize) -> Option<Head>
     ensures found { result ≡ head_at bytes.now at }
-    ensures within { IfSome result (λ head. head.code.at + head.code.len ≤ length bytes.now) }
+    ensures within { IfSome result (λ head. LiesIn (length bytes.now) head.code) }
 {
-    match bytes.get(at)? % 4 {
+    match bytes.get(at)? % FORMS {
         TINY => read_tiny(bytes, at),
         FAT => read_fat(bytes, at),
         _ => None,
@@ -101,7 +109,7 @@ fn read_tiny(bytes: &[u8], at: usize) -> Option<Head>
     ensures { result ≡ (if nat_le (tiny_end bytes.now at) (length bytes.now)
         then Some (tiny_head bytes.now at) else None) }
 {
-    let len = usize::from(bytes[at] / 4);
+    let len = usize::from(bytes[at] / FORMS);
     if bytes.len() < at + 1 + len {
         return None;
     }
@@ -124,7 +132,7 @@ fn read_fat(bytes: &[u8], at: usize) -> Option<Head>
     }
     let flags = u16_at(bytes, at);
     let len = u32_at(bytes, at + 4) as usize;
-    if flags / 0x1000 != FAT_WORDS || bytes.len() < at + FAT_LEN + len {
+    if flags / WORDS_UNIT != FAT_WORDS || bytes.len() < at + FAT_LEN + len {
         return None;
     }
     Some(Head {

@@ -13,6 +13,12 @@ use cli_words::{Span, u16_at, u32_at, u64_at};
 /// The first byte of an opcode of two bytes.
 const PREFIX: u8 = 0xFE;
 
+/// The opcode of two bytes whose second is 0.
+const LONG_OPCODES: u16 = 0xFE00;
+
+/// The length of a distance, and of the count before distances, in bytes.
+const DISTANCE_LEN: usize = 4;
+
 /// What follows an opcode. ECMA-335 III.1.2.
 #[derive(Clone, Copy, PartialEq, Eq, Debug)]
 pub enum Operand {
@@ -80,7 +86,7 @@ fn read_opcode(code: &[u8], at: usize) -> Option<(u16, usize)>
         return Some((u16::from(first), at + 1));
     }
     let second = *code.get(at + 1)?;
-    Some((0xFE00 + u16::from(second), at + 2))
+    Some((LONG_OPCODES + u16::from(second), at + 2))
 }
 
 /// The place after an operand, where the code goes on to there.
@@ -98,8 +104,8 @@ fn operand_end(code: &[u8], from: usize, form: Form) -> Option<usize>
         Form::UInt16 => 2,
         Form::Int32 | Form::TokenWord | Form::LongBranch => 4,
         Form::Int64 => 8,
-        Form::Distances if room < 4 => return None,
-        Form::Distances => 4 + 4 * u32_at(code, from) as usize,
+        Form::Distances if room < DISTANCE_LEN => return None,
+        Form::Distances => DISTANCE_LEN + DISTANCE_LEN * u32_at(code, from) as usize,
     };
     if len <= room { Some(from + len) } else { None }
 }
@@ -121,8 +127,8 @@ fn read_operand(code: &[u8], from: usize, form: Form) -> Operand
         Form::ShortBranch => Operand::Branch(i32::from(code[from].cast_signed())),
         Form::LongBranch => Operand::Branch(u32_at(code, from).cast_signed()),
         Form::Distances => Operand::Switch(Span {
-            at: from + 4,
-            len: 4 * u32_at(code, from) as usize,
+            at: from + DISTANCE_LEN,
+            len: DISTANCE_LEN * u32_at(code, from) as usize,
         }),
     }
 }

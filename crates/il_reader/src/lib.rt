@@ -4,6 +4,7 @@
 mod body;
 mod fault;
 mod instruction;
+mod laws;
 mod offsets;
 mod opcode;
 mod section;
@@ -11,8 +12,9 @@ mod section;
 pub use body::{Body, read_body};
 pub use fault::IlFault;
 pub use instruction::{Instr, Operand, next};
+pub use laws::{boundaries_or_break, not_broken, one_break};
 pub use offsets::boundaries;
-pub use section::{Clause, Clauses};
+pub use section::{CATCH, Clause, Clauses, FAULT, FILTER, FINALLY};
 
 #[cfg(test)]
 mod tests;

@@ -1,6 +1,6 @@
 //! The places where the instructions of a code begin.
 ghost use Rattle.std.specs.Prelude.{◌≡◌, List, ℕ, ◌-◌, ◌^◌, ◌<◌, length, IfOk, IfErr};
-ghost use Rattle.il_reader.specs.Boundaries.{AreBoundaries, HasFault};
+ghost use Rattle.il_reader.specs.Offsets.{AreBoundaries, HasFault};
 
 use crate::fault::IlFault;
 use crate::instruction::next;

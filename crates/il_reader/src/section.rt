@@ -8,12 +8,23 @@ ghost use Rattle.il_reader.specs.Sections.{clause_of, clause_at, clause_len, is_
 ghost use Rattle.il_reader.specs.Sections.{has_header};
 ghost use Rattle.il_reader.specs.Reading.{section_of};
 
-use cli_words::{u16_at, u32_at};
+use cli_words::{Listed, u16_at, u32_at};
 use std::alloc::{AllocError, Global};
-use std::marker::Model;
+
+/// What the place of a section is a multiple of.
+const ALIGNMENT: usize = 4;
 
 /// The length of a section's header, in bytes.
 const HEADER_LEN: usize = 4;
+
+/// The length of a clause of the small form, in bytes.
+const SMALL_LEN: usize = 12;
+
+/// The same of the fat form.
+const WIDE_LEN: usize = 24;
+
+/// What the length of a section is multiplied by in the fat form's header, after its kind.
+const LEN_UNIT: u32 = 0x100;
 
 /// The bits of a section's first byte that say what it holds.
 const KINDS: u8 = 0x3F;
@@ -27,10 +38,22 @@ const WIDE: u8 = 0x40;
 /// The bit that says that another section follows.
 const MORE: u8 = 0x80;
 
+/// The kind of a clause that takes exceptions of a class. ECMA-335 II.25.4.6.
+pub const CATCH: u32 = 0;
+
+/// That of a clause whose code says whether it takes an exception.
+pub const FILTER: u32 = 1;
+
+/// That of a clause that runs however its try is left.
+pub const FINALLY: u32 = 2;
+
+/// That of a clause that runs where its try is left by an exception.
+pub const FAULT: u32 = 4;
+
 /// An exception clause. Offsets and lengths are in bytes of the code. ECMA-335 II.25.4.6.
 #[derive(Clone, Copy, PartialEq, Eq, Debug)]
 pub struct Clause {
-    /// 0 for a catch, 1 for a filter, 2 for a finally, 4 for a fault.
+    /// One of [`CATCH`], [`FILTER`], [`FINALLY`] and [`FAULT`].
     pub kind: u32,
     pub try_at: u32,
     pub try_len: u32,
@@ -41,42 +64,7 @@ pub struct Clause {
 }
 
 /// The clauses of a body, in their order.
-#[derive(Debug, Drop)]
-pub struct Clauses {
-    items: Vec<Clause>,
-}
-
-impl Model for Clauses {
-    ghost use Rattle.std.specs.Prelude.{List};
-    ghost use Rattle.il_reader.specs.declared.section.Clause.{Clause};
-
-    ghost Value = { List Clause };
-
-    ghost view = { λ clauses. clauses.items.items };
-}
-
-impl Clauses {
-    /// The clauses of a `Vec`. It takes no memory.
-    pub fn of(items: Vec<Clause>) -> Clauses
-        ensures { result ≡ items.items }
-    {
-        Clauses { items }
-    }
-
-    /// The clauses, in their order.
-    pub fn items(&self) -> &[Clause]
-        ensures { result.now ≡ self.now }
-    {
-        self.items.as_slice()
-    }
-
-    /// The `Vec` that they were made of. It takes no memory.
-    pub fn into_vec(self) -> Vec<Clause>
-        ensures { result.items ≡ self }
-    {
-        self.items
-    }
-}
+pub type Clauses = Listed<Clause>;
 
 /// The clauses of the sections that stand one after the other, where sections are `due` after byte
 /// `end`. `None` exactly where no such sections stand whole in the bytes.
@@ -91,7 +79,7 @@ pub(crate) fn read_clauses(
 {
     let mut clauses = Vec::new(alloc);
     while due {
-        let Some(section) = read_section(bytes, end.next_multiple_of(4)) else {
+        let Some(section) = read_section(bytes, end.next_multiple_of(ALIGNMENT)) else {
             return Ok(None);
         };
         if !section.push_clauses(bytes, &mut clauses)? {
@@ -132,7 +120,7 @@ fn read_section(bytes: &[u8], at: usize) -> Option<Section>
     let kind = bytes[at];
     let is_wide = kind & WIDE != 0;
     let len = if is_wide {
-        u32_at(bytes, at) / 0x100
+        u32_at(bytes, at) / LEN_UNIT
     } else {
         u32::from(bytes[at + 1])
     };
@@ -166,7 +154,7 @@ impl Section {
     fn clause_len(self) -> usize
         ensures { result ≡ clause_len self.is_wide }
     {
-        if self.is_wide { 24 } else { 12 }
+        if self.is_wide { WIDE_LEN } else { SMALL_LEN }
     }
 
     /// Puts its clauses at the end of these, as far as their kinds are known. Answers whether all
@@ -224,6 +212,6 @@ impl Clause {
     fn is_known(&self) -> bool
         ensures { result ≡ is_known self.now }
     {
-        matches!(self.kind, 0 | 1 | 2 | 4)
+        matches!(self.kind, CATCH | FILTER | FINALLY | FAULT)
     }
 }

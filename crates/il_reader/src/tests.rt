@@ -1,4 +1,6 @@
-use crate::{Body, Clause, Clauses, IlFault, Instr, Operand, boundaries, next, read_body};
+use crate::{
+    Body, CATCH, Clause, FAULT, FINALLY, IlFault, Instr, Operand, boundaries, next, read_body,
+};
 use cli_words::Span;
 use std::alloc::{AllocError, Global};
 use std::test::Fail;
@@ -40,7 +42,7 @@ const BYTES: [u16; 8] = [0x0E, 0x0F, 0x10, 0x11, 0x12, 0x13, 0xFE12, 0xFE19];
 const HALVES: [u16; 6] = [0xFE09, 0xFE0A, 0xFE0B, 0xFE0C, 0xFE0D, 0xFE0E];
 
 /// A fat body with a small section: a catch.
-const CATCH: [u8; 44] = [
+const WITH_CATCH: [u8; 44] = [
     0x1B, 0x30, 0x02, 0x00, 0x0D, 0x00, 0x00, 0x00, 0x01, 0x00, 0x00, 0x11, 0x17, 0x16, 0x5B, 0x0A,
     0xDE, 0x05, 0x26, 0x1B, 0x0A, 0xDE, 0x00, 0x06, 0x2A, 0x00, 0x00, 0x00, 0x01, 0x10, 0x00, 0x00,
     0x00, 0x00, 0x00, 0x00, 0x06, 0x06, 0x00, 0x05, 0x03, 0x00, 0x00, 0x01,
@@ -56,6 +58,7 @@ const TWO_SECTIONS: [u8; 76] = [
     0xFF, 0xFF, 0xFF, 0xFF, 0x00, 0x00, 0x00, 0x80, 0x01, 0x04, 0xAA, 0xAA,
 ];
 
+/// The bytes of an instruction.
 fn coded(alloc: Global, opcode: u16, operand: &[u8]) -> Result<Vec<u8>, AllocError> {
     let mut code = Vec::new(alloc);
     if opcode >= 0x100 {
@@ -64,14 +67,6 @@ fn coded(alloc: Global, opcode: u16, operand: &[u8]) -> Result<Vec<u8>, AllocErr
     code.push((opcode % 0x100) as u8)?;
     code.extend_from_slice(operand)?;
     Ok(code)
-}
-
-fn edited(alloc: Global, bytes: &[u8], at: usize, byte: u8) -> Result<Vec<u8>, AllocError> {
-    let mut bytes = bytes.to_vec(alloc)?;
-    if let Some(place) = bytes.get_mut(at) {
-        *place = byte;
-    }
-    Ok(bytes)
 }
 
 #[test]
@@ -117,125 +112,76 @@ fn decodes_each_instruction(rt: HostRuntime) -> Result<(), Fail> {
             assert_eq!(rt; next(&coded, 0), Err(IlFault::Bad { at: 0 }));
         }
     }
-    Ok(())
-}
-
-#[test]
-fn knows_no_other_instruction(rt: HostRuntime) -> Result<(), Fail> {
-    let others: [u16; 4] = [0x1F, 0x20, 0x21, 0x22];
-    let rest: [u16; 2] = [0x23, 0x45];
+    // there are no others
+    let mut known = Vec::new(rt.alloc());
     for second in 0..=0xFF_u8 {
         let low = u16::from(second);
         for code in [low, 0xFE00 + low] {
-            let known = BARE.contains(&code)
-                || TOKENS.contains(&code)
-                || SHORT.contains(&code)
-                || LONG.contains(&code)
-                || BYTES.contains(&code)
-                || HALVES.contains(&code)
-                || others.contains(&code)
-                || rest.contains(&code);
             let coded = coded(rt.alloc(), code, &[0; 8])?;
-            assert_eq!(rt; next(&coded, 0).is_ok(), known || code == 0xFE, "{code:x}");
+            if code != 0xFE && next(&coded, 0).is_ok() {
+                known.push(code)?;
+            }
         }
     }
-    for (code, at) in [
-        (&[0xFE].as_slice(), 0),
-        (&[0x17, 0xFE].as_slice(), 1),
-        (&[0x17].as_slice(), 1),
-        (&[].as_slice(), 0),
-        (&[0x17].as_slice(), usize::MAX),
-        (&[0x45, 0xFF, 0xFF, 0xFF, 0xFF, 0, 0, 0, 0].as_slice(), 0),
-        (&[0x00, 0x45, 1, 0, 0, 0, 0, 0, 0].as_slice(), 1),
-    ] {
-        assert_eq!(rt; next(code, at), Err(IlFault::Bad { at }));
-    }
+    assert_eq!(rt; known.len(), 219);
     Ok(())
 }
 
 #[test]
 fn finds_boundaries(rt: HostRuntime) -> Result<(), Fail> {
-    let rows: [(&[u8], &[u32]); 20] = [
-        (&[], &[]),
-        (&[0x2A], &[0]),
-        (&[0x17, 0x2A], &[0, 1]),
-        (&[0x1F, 0x2A, 0x2A], &[0, 2]),
-        (&[0x02, 0x03, 0x5B, 0x2A], &[0, 1, 2, 3]),
-        (&[0x28, 0x01, 0x00, 0x00, 0x0A, 0x2A], &[0, 5]),
-        (&[0x7E, 0x01, 0x00, 0x00, 0x0A, 0x2A], &[0, 5]),
-        (&[0x22, 0x00, 0x00, 0x00, 0x00, 0x2A], &[0, 5]),
-        (&[0x23, 0, 0, 0, 0, 0, 0, 0, 0, 0x2A], &[0, 9]),
-        (&[0x17, 0x17, 0x2D, 0x01, 0x18, 0x2A], &[0, 1, 2, 4, 5]),
-        (&[0x02, 0x80, 0x02, 0x00, 0x00, 0x04, 0x2A], &[0, 1, 6]),
+    let rows: [(&[u8], Result<&[u32], usize>); 16] = [
+        (&[], Ok(&[])),
+        (&[0x17, 0x2A], Ok(&[0, 1])),
+        (&[0x1F, 0x2A, 0x2A], Ok(&[0, 2])),
+        (&[0x02, 0x03, 0x5B, 0x2A], Ok(&[0, 1, 2, 3])),
+        (&[0x28, 0x01, 0x00, 0x00, 0x0A, 0x2A], Ok(&[0, 5])),
+        (&[0x17, 0x17, 0x2D, 0x01, 0x18, 0x2A], Ok(&[0, 1, 2, 4, 5])),
         (
             &[0x02, 0x8D, 0x02, 0x00, 0x00, 0x01, 0x8E, 0x69, 0x2A],
-            &[0, 1, 6, 7, 8],
-        ),
-        (
-            &[
-                0x72, 0x01, 0x00, 0x00, 0x70, 0x28, 0x01, 0x00, 0x00, 0x0A, 0x2A,
-            ],
-            &[0, 5, 10],
-        ),
-        (
-            &[
-                0x00, 0x00, 0x00, 0x02, 0x17, 0x59, 0x10, 0x00, 0x02, 0x2D, 0xF8, 0x2A,
-            ],
-            &[0, 1, 2, 3, 4, 5, 6, 8, 9, 11],
-        ),
-        (
-            &[
-                0x02, 0x2C, 0x08, 0x02, 0x17, 0x59, 0x28, 0x08, 0x00, 0x00, 0x06, 0x2A,
-            ],
-            &[0, 1, 3, 4, 5, 6, 11],
+            Ok(&[0, 1, 6, 7, 8]),
         ),
         (
             &[
                 0x7E, 0x01, 0x00, 0x00, 0x04, 0x26, 0x02, 0x17, 0x59, 0x10, 0x00, 0x02, 0x2D, 0xF2,
                 0x2A,
             ],
-            &[0, 5, 6, 7, 8, 9, 11, 12, 14],
+            Ok(&[0, 5, 6, 7, 8, 9, 11, 12, 14]),
         ),
         (
             &[
                 0x17, 0x16, 0x5B, 0x0A, 0xDE, 0x05, 0x26, 0x1B, 0x0A, 0xDE, 0x00, 0x06, 0x2A,
             ],
-            &[0, 1, 2, 3, 4, 6, 7, 8, 9, 11, 12],
+            Ok(&[0, 1, 2, 3, 4, 6, 7, 8, 9, 11, 12]),
         ),
         (
             &[
                 0x73, 0x02, 0x00, 0x00, 0x0A, 0x7A, 0x72, 0x01, 0x00, 0x00, 0x70, 0x28, 0x01, 0x00,
                 0x00, 0x0A, 0xDC,
             ],
-            &[0, 5, 6, 11, 16],
+            Ok(&[0, 5, 6, 11, 16]),
         ),
-        (&[0x2A, 0x26, 0xDE, 0x00, 0x2A], &[0, 1, 2, 4]),
         (
             &[
                 0xFE, 0x0C, 0x01, 0x00, 0x45, 1, 0, 0, 0, 0, 0, 0, 0, 0xFE, 0x01,
             ],
-            &[0, 4, 13],
+            Ok(&[0, 4, 13]),
         ),
-    ];
-    for (code, offsets) in rows {
-        let found = boundaries(rt.alloc(), code)?;
-        assert_eq!(rt; found.as_slice(), offsets);
-    }
-    let broken: [(&[u8], usize); 5] = [
-        (&[0xFE], 0),
-        (&[0x17, 0x24], 1),
-        (&[0x24, 0x24], 0),
-        (&[0x17, 0x20, 0x00, 0x00, 0x00], 1),
+        (&[0xFE], Err(0)),
+        (&[0x17, 0x24], Err(1)),
+        (&[0x17, 0x20, 0x00, 0x00, 0x00], Err(1)),
         (
             &[0x2A, 0x45, 0x02, 0x00, 0x00, 0x00, 0x00, 0x00, 0x00, 0x00],
-            1,
+            Err(1),
         ),
+        (&[0x45, 0xFF, 0xFF, 0xFF, 0xFF, 0x00], Err(0)),
     ];
-    for (code, at) in broken {
-        assert_eq!(rt;
-            boundaries(rt.alloc(), code).err(),
-            Some(IlFault::Bad { at })
-        );
+    for (code, answer) in rows {
+        match (boundaries(rt.alloc(), code), answer) {
+            (Ok(found), Ok(offsets)) => assert_eq!(rt; found.as_slice(), offsets),
+            (found, answer) => {
+                assert_eq!(rt; found.err(), answer.err().map(|at| IlFault::Bad { at }));
+            }
+        }
     }
     Ok(())
 }
@@ -246,29 +192,16 @@ fn head(body: &Body) -> (u16, bool, u32, Span) {
 
 #[test]
 fn reads_bodies(rt: HostRuntime) -> Result<(), Fail> {
-    let tiny = read_body(rt.alloc(), &[0x0A, 0x17, 0x2A], 0)?;
-    assert_eq!(rt; head(&tiny), (8, false, 0, Span { at: 1, len: 2 }));
-    assert!(rt; tiny.clauses.items().is_empty());
-    let empty = read_body(rt.alloc(), &[0xFF, 0x02], 1)?;
-    assert_eq!(rt; head(&empty), (8, false, 0, Span { at: 2, len: 0 }));
-
     let caught = Clause {
-        kind: 0,
+        kind: CATCH,
         try_at: 0,
         try_len: 6,
         handler_at: 6,
         handler_len: 5,
         last: 0x0100_0003,
     };
-    let catch = read_body(rt.alloc(), &CATCH, 0)?;
-    assert_eq!(rt;
-        head(&catch),
-        (2, true, 0x1100_0001, Span { at: 12, len: 13 })
-    );
-    assert_eq!(rt; catch.clauses.items(), [caught].as_slice());
-
     let last = Clause {
-        kind: 2,
+        kind: FINALLY,
         try_at: 0x0403_0201,
         try_len: 5,
         handler_at: 6,
@@ -276,75 +209,99 @@ fn reads_bodies(rt: HostRuntime) -> Result<(), Fail> {
         last: 0,
     };
     let fault = Clause {
-        kind: 4,
+        kind: FAULT,
         try_at: 0,
         try_len: 1,
         handler_at: 1,
         handler_len: u32::MAX,
         last: 0x8000_0000,
     };
-    let two = read_body(rt.alloc(), &TWO_SECTIONS, 3)?;
-    assert_eq!(rt; head(&two), (7, false, 0, Span { at: 15, len: 2 }));
-    assert_eq!(rt; two.clauses.items(), [last, fault].as_slice());
-    assert_eq!(rt; Clauses::of(two.clauses.into_vec()).items().len(), 2);
+    let rows: [(&[u8], usize, (u16, bool, u32, Span), &[Clause]); 4] = [
+        (
+            &[0x0A, 0x17, 0x2A],
+            0,
+            (8, false, 0, Span { at: 1, len: 2 }),
+            &[],
+        ),
+        (&[0xFF, 0x02], 1, (8, false, 0, Span { at: 2, len: 0 }), &[]),
+        (
+            &WITH_CATCH,
+            0,
+            (2, true, 0x1100_0001, Span { at: 12, len: 13 }),
+            &[caught],
+        ),
+        (
+            &TWO_SECTIONS,
+            3,
+            (7, false, 0, Span { at: 15, len: 2 }),
+            &[last, fault],
+        ),
+    ];
+    for (bytes, at, expected, clauses) in rows {
+        let body = read_body(rt.alloc(), bytes, at)?;
+        assert_eq!(rt; head(&body), expected);
+        assert_eq!(rt; body.clauses.items(), clauses);
+        // without the last byte none stands whole
+        if let Some((_, front)) = bytes.split_last() {
+            let cut = read_body(rt.alloc(), front, at).err();
+            assert_eq!(rt; cut, Some(IlFault::Bad { at }));
+        }
+    }
     Ok(())
 }
 
 #[test]
 fn refuses_what_is_no_body(rt: HostRuntime) -> Result<(), Fail> {
     // a byte of the body with a catch, what stands there instead, and how many clauses are read
-    let rows: [(usize, u8, Option<usize>); 26] = [
+    let rows: [(usize, u8, Option<usize>); 14] = [
         (0, 0x13, Some(0)),
-        (0, 0x0B, Some(1)),
-        (0, 0x18, None),
         (0, 0x19, None),
         (1, 0x20, None),
-        (1, 0x40, None),
         (1, 0x3F, Some(1)),
-        (4, 0x0E, Some(1)),
         (4, 0x10, Some(1)),
         (4, 0x11, None),
-        (4, 0x20, None),
-        (4, 0x21, None),
-        (7, 0xFF, None),
         (25, 0xFF, Some(1)),
         (28, 0x02, None),
-        (28, 0x11, None),
         (28, 0x41, None),
         (28, 0x81, None),
-        (29, 0x00, None),
         (29, 0x04, Some(0)),
         (29, 0x0F, None),
-        (29, 0x1C, None),
-        (30, 0xFF, Some(1)),
         (32, 0x01, Some(1)),
         (32, 0x03, None),
-        (33, 0x01, None),
     ];
     for (at, byte, clauses) in rows {
-        let bytes = edited(rt.alloc(), &CATCH, at, byte)?;
-        let read = read_body(rt.alloc(), &bytes, 0);
-        match (read, clauses) {
-            (Ok(body), Some(count)) => assert_eq!(rt; body.clauses.items().len(), count),
-            (read, _) => assert_eq!(rt; read.err(), Some(IlFault::Bad { at: 0 }), "{at} {byte}"),
+        let mut bytes = WITH_CATCH.to_vec(rt.alloc())?;
+        if let Some(place) = bytes.get_mut(at) {
+            *place = byte;
         }
-        assert_eq!(rt;
-            clauses.is_none(),
-            read_body(rt.alloc(), &bytes, 0).is_err()
-        );
+        let read = read_body(rt.alloc(), &bytes, 0).ok();
+        assert_eq!(rt; read.map(|body| body.clauses.items().len()), clauses);
     }
-    let cut: [(&[u8], usize); 7] = [
-        (&[], 0),
-        (&[0x0A, 0x17], 0),
-        (&[0x0A, 0x17, 0x2A], 3),
-        (&[0x0A, 0x17, 0x2A], usize::MAX),
-        (&CATCH[..43], 0),
-        (&CATCH[..11], 0),
-        (&TWO_SECTIONS[..75], 3),
-    ];
-    for (bytes, at) in cut {
-        let read = read_body(rt.alloc(), bytes, at);
-        assert_eq!(rt; read.err(), Some(IlFault::Bad { at }));
-    }
+    let far = read_body(rt.alloc(), &WITH_CATCH, usize::MAX).err();
+    assert_eq!(rt; far, Some(IlFault::Bad { at: usize::MAX }));
+    Ok(())
+}
+
+#[test]
+fn reads_what_is_long(rt: HostRuntime) -> Result<(), Fail> {
+    // a fat body of so many instructions, and after them a fat section of 100 clauses of no bytes
+    let mut bytes = vec![in rt.alloc(); 0x00; 12 + 65_536 + 4 + 24 * 100]?;
+    bytes[0] = 0x0B;
+    bytes[1] = 0x30;
+    bytes[6] = 0x01;
+    bytes[12 + 65_536] = 0x41;
+    bytes[12 + 65_537] = 0x64;
+    bytes[12 + 65_538] = 0x09;
+    let body = read_body(rt.alloc(), &bytes, 0)?;
+    assert_eq!(rt; body.clauses.items().len(), 100);
+    assert_eq!(rt;
+        body.code,
+        Span {
+            at: 12,
+            len: 65_536
+        }
+    );
+    let code = body.code.cut(&bytes);
+    assert_eq!(rt; boundaries(rt.alloc(), code)?.len(), 65_536);
     Ok(())
 }

@@ -4,14 +4,14 @@ use Rattle.std.specs.Bool.{Decides}
 use Rattle.std.proofs.lemmas.Bool.{and_parts, eqb-true}
 use Rattle.std.proofs.lemmas.Bool.Decides.{Decides-eqb}
 use denote.Enum.Bare.{sameb, same_true}
-use Rattle.signatures.specs.contracts.sig.Prim.{the_type}
+use Rattle.signatures.specs.contracts.sig.Primitive.{the_type}
 use Rattle.signatures.specs.declared.key.KeyPart.{KeyPart}
 use Rattle.signatures.specs.declared.key.KeyPart.TheVariants.{Prim, Class, Vector}
-use Rattle.signatures.specs.declared.sig.Prim as prim
-use Rattle.signatures.specs.declared.sig.Prim.TheVariants as prims
+use Rattle.signatures.specs.declared.sig.Primitive as prim
+use Rattle.signatures.specs.declared.sig.Primitive.TheVariants as prims
 use Rattle.signatures.specs.contracts.key.KeyPartPartialEq.TheImpl as part_eq
 
-prim-same : (a : prim.Prim) → sameb the_type a a ≡ true
+prim-same : (a : prim.Primitive) → sameb the_type a a ≡ true
 prim-same prims.Bool = refl
 prim-same prims.Char = refl
 prim-same prims.Int8 = refl

@@ -6,7 +6,7 @@ use Rattle.std.proofs.lemmas.List.{take-append-drop, append-nil}
 use Rattle.std.proofs.lemmas.Bool.{eqb-true, eqb-false, or_cases}
 use Rattle.std.proofs.lemmas.Option.{cond_some}
 use Rattle.cli_words.specs.Compressed.{Spells, number_at_front}
-use Rattle.cli_words.proofs.Spelled.{AreBytes, told_at}
+use Rattle.cli_words.proofs.Spelled.{told_at}
 use Rattle.signatures.specs.declared.feature.Feature.TheVariants.{ValueType, GenericMethod, Varargs}
 use Rattle.signatures.specs.declared.fault.Stop.{Stop}
 use Rattle.signatures.specs.declared.fault.Stop.TheVariants.{Bad, Feature}
@@ -16,10 +16,12 @@ use Rattle.signatures.specs.declared.sig.MethodSig.{MethodSig}
 use Rattle.signatures.specs.declared.element.Element.{Element}
 use Rattle.signatures.specs.declared.element.Element.TheVariants as element
 use Rattle.signatures.specs.Types.{arity, are_types}
-use Rattle.signatures.specs.Elements.{element_of}
+use Rattle.signatures.specs.Elements.{element_of, void_byte, class_byte, value_type_byte, cmod_reqd, cmod_opt}
+use Rattle.signatures.specs.Kinds.{field_kind, locals_kind, head_of, default_head, default_this_head, generic_head, generic_this_head, vararg_head, vararg_this_head}
 use Rattle.signatures.specs.Grammar.{Reading, ◌>>=◌, nothing_at, after_number, number_at, class_at, past_modifier, after_modifiers, modifiers_at, generic_at, begun, bare_part_at, part_at, types_at, type_at, bare_result_at, result_at, sigs_at, after_kind, head_at, method_at, locals_at, field_at}
-use Rattle.signatures.specs.Spelling.{SpellsClass, SpellsModifiers, AreModifiers, SpellsPart, SpellsParts, SpellsType, SpellsTypes, SpellsResult, SpellsField, SpellsLocals, head_of, SpellsMethod}
+use Rattle.signatures.specs.Spelling.{SpellsClass, SpellsModifiers, AreModifiers, SpellsPart, SpellsParts, SpellsType, SpellsTypes, SpellsResult, SpellsField, SpellsLocals, SpellsMethod}
 use Rattle.signatures.specs.Signatures.{whole}
+use Rattle.signatures.specs.Laws.{AreBytes}
 use Rattle.signatures.proofs.Loops.{bind_ok, ok_pair, types-whole}
 
 -- a front of the bytes is a spelling of the value, and the rest follows it
@@ -61,7 +63,7 @@ pub bind_pair : {A B : Type 0} (r : Reading A) (f : A × List ℕ → Result B S
 bind_pair (Ok (x, rest)) f y h = (x, rest, refl, h)
 bind_pair (Err stop) f y h = absurd cc
 
-takes-same : {A : Type 0} (P : A → List ℕ → Type 0) (bytes : List ℕ) (x y : A) (r s : List ℕ) → ◌≡◌ {A = Reading A} (Ok (x, r)) (Ok (y, s)) → Takes P bytes x r → Takes P bytes y s
+pub takes-same : {A : Type 0} (P : A → List ℕ → Type 0) (bytes : List ℕ) (x y : A) (r s : List ℕ) → ◌≡◌ {A = Reading A} (Ok (x, r)) (Ok (y, s)) → Takes P bytes x r → Takes P bytes y s
 takes-same P bytes x y r s h t =
     let e = ok_pair x y r s _ refl h in
     subst (λ z. Takes P bytes z s) e.0 (subst (λ z. Takes P bytes x z) e.1 t)
@@ -102,7 +104,7 @@ modifiers_found (suc steps) bytes rest small h =
           (p.0 ∷ (c.0 ++ i.0), (suc i.1.0, (p.0, c.0, b.0, i.0, p.1, c.1, i.1.1, refl)), p.2 ∙ ap (λ (zs : List ℕ). p.0 ∷ zs) joined)
     ] refl h
 
-generic-found : (byte : ℕ) (bytes rest : List ℕ) (part : SigPart) → AreBytes bytes → element_of byte ≡ Some element.Inst → generic_at bytes ≡ Ok (part, rest) → Takes SpellsPart (byte ∷ bytes) part rest
+pub generic-found : (byte : ℕ) (bytes rest : List ℕ) (part : SigPart) → AreBytes bytes → element_of byte ≡ Some element.Inst → generic_at bytes ≡ Ok (part, rest) → Takes SpellsPart (byte ∷ bytes) part rest
 unfolding generic_at
 generic-found byte [] rest part small e h = absurd cc
 generic-found byte (next ∷ bytes) rest part small e h =
@@ -151,7 +153,7 @@ part-found bytes rest part small h =
     let b = bare_part-found a.0 rest part (bytes-after bytes m.0 a.0 m.2 small) a.2 in
     (m.0, b.0, m.1, b.1, m.2 ∙ ap (λ (zs : List ℕ). m.0 ++ zs) b.2)
 
-types-found : (steps n : ℕ) (bytes rest : List ℕ) (parts : List SigPart) → AreBytes bytes → types_at steps n bytes ≡ Ok (parts, rest) → Takes SpellsParts bytes parts rest
+pub types-found : (steps n : ℕ) (bytes rest : List ℕ) (parts : List SigPart) → AreBytes bytes → types_at steps n bytes ≡ Ok (parts, rest) → Takes SpellsParts bytes parts rest
 unfolding types_at
 types-found steps zero bytes rest parts small h = takes-same SpellsParts bytes [] parts bytes rest h ([], refl, refl)
 types-found zero (suc n) bytes rest parts small h = absurd cc
@@ -179,7 +181,7 @@ modifiers-append (suc count) xs ys h m =
     (suc i.0, (h.0, h.1, h.2, h.3 ++ ys, h.4, h.5, i.1, ap (λ (zs : List ℕ). zs ++ ys) h.7 ∙ ap (λ (zs : List ℕ). h.0 ∷ zs) (append_assoc h.1 h.3 ys)))
 
 -- modifiers may stand before any type
-type-after : (sig : List SigPart) (modifiers bytes : List ℕ) → AreModifiers modifiers → SpellsType sig bytes → SpellsType sig (modifiers ++ bytes)
+pub type-after : (sig : List SigPart) (modifiers bytes : List ℕ) → AreModifiers modifiers → SpellsType sig bytes → SpellsType sig (modifiers ++ bytes)
 type-after [] modifiers bytes m h = absurd (no_sig h.0) where
   no_sig : ¬ (are_types 1 [] ≡ true)
   no_sig h = absurd cc
@@ -219,12 +221,6 @@ sigs-found (suc count) bytes rest sigs small h =
     takes-same (λ sigs front. (length sigs ≡ suc count) × SpellsTypes sigs front) bytes (a.0 ∷ b.0) sigs b.1 rest b.3
     (t.0 ++ i.0, (ap (λ (k : ℕ). suc k) i.1.0, (t.0, i.0, t.1, i.1.1, refl)), t.2 ∙ (ap (λ (zs : List ℕ). t.0 ++ zs) i.2 ∙ sym (append_assoc t.0 i.0 b.1)))
 
--- a reading that took its bytes whole
-whole_ok : {A : Type 0} (reading : Reading A) (x : A) → whole reading ≡ Ok x → reading ≡ Ok (x, [])
-whole_ok (Ok (y, [])) x h = ap (λ z. Ok (z, [])) (same_ok y x h)
-whole_ok (Ok (y, byte ∷ rest)) x h = absurd cc
-whole_ok (Err stop) x h = absurd cc
-
 pub kind-found : (kind : ℕ) (bytes rest : List ℕ) → after_kind kind bytes ≡ Ok rest → bytes ≡ kind ∷ rest
 unfolding after_kind
 kind-found kind [] rest h = absurd cc
@@ -234,29 +230,25 @@ kind-found kind (byte ∷ bytes) rest h =
       | false ↦ λ e h. absurd cc
     ] refl h
 
-pub field-found : (bytes : List ℕ) (sig : List SigPart) → AreBytes bytes → whole (field_at bytes) ≡ Ok sig → SpellsField sig bytes
+pub field-found : (bytes rest : List ℕ) (sig : List SigPart) → AreBytes bytes → field_at bytes ≡ Ok (sig, rest) → Takes SpellsField bytes sig rest
 unfolding field_at
-field-found bytes sig small h =
-    let a = bind_ok (after_kind 0x06 bytes) _ _ (whole_ok (field_at bytes) sig h) in
-    let k = kind-found 0x06 bytes a.0 a.1 in
-    let t = type-found a.0 [] sig (bytes-after bytes (0x06 ∷ []) a.0 k small) a.2 in
-    (t.0, t.1, k ∙ ap (λ (zs : List ℕ). 0x06 ∷ zs) (t.2 ∙ append-nil t.0))
+field-found bytes rest sig small h =
+    let a = bind_ok (after_kind field_kind bytes) _ _ h in
+    let k = kind-found field_kind bytes a.0 a.1 in
+    let t = type-found a.0 rest sig (bytes-after bytes (field_kind ∷ []) a.0 k small) a.2 in
+    (field_kind ∷ t.0, (t.0, t.1, refl), k ∙ ap (λ (zs : List ℕ). field_kind ∷ zs) t.2)
 
-pub specification-found : (bytes : List ℕ) (sig : List SigPart) → AreBytes bytes → whole (type_at bytes) ≡ Ok sig → SpellsType sig bytes
-specification-found bytes sig small h =
-    let t = type-found bytes [] sig small (whole_ok (type_at bytes) sig h) in
-    subst (λ front. SpellsType sig front) (sym (t.2 ∙ append-nil t.0)) t.1
-
-pub locals-found : (bytes : List ℕ) (sigs : List (List SigPart)) → AreBytes bytes → whole (locals_at bytes) ≡ Ok sigs → SpellsLocals sigs bytes
+pub locals-found : (bytes rest : List ℕ) (sigs : List (List SigPart)) → AreBytes bytes → locals_at bytes ≡ Ok (sigs, rest) → Takes SpellsLocals bytes sigs rest
 unfolding locals_at
-locals-found bytes sigs small h =
-    let a = bind_ok (after_kind 0x07 bytes) _ _ (whole_ok (locals_at bytes) sigs h) in
-    let k = kind-found 0x07 bytes a.0 a.1 in
-    let small_rest = bytes-after bytes (0x07 ∷ []) a.0 k small in
+locals-found bytes rest sigs small h =
+    let a = bind_ok (after_kind locals_kind bytes) _ _ h in
+    let k = kind-found locals_kind bytes a.0 a.1 in
+    let small_rest = bytes-after bytes (locals_kind ∷ []) a.0 k small in
     let b = bind_pair (number_at a.0) _ _ a.2 in
     let n = number-found a.0 b.1 b.0 small_rest b.2 in
-    let t = sigs-found b.0 b.1 [] sigs (bytes-after a.0 n.0 b.1 n.2 small_rest) b.3 in
-    (n.0, t.0, subst (λ m. Spells n.0 m) (sym t.1.0) n.1, t.1.1, k ∙ ap (λ (zs : List ℕ). 0x07 ∷ zs) (n.2 ∙ ap (λ (zs : List ℕ). n.0 ++ zs) (t.2 ∙ append-nil t.0)))
+    let t = sigs-found b.0 b.1 rest sigs (bytes-after a.0 n.0 b.1 n.2 small_rest) b.3 in
+    let joined : a.0 ≡ (n.0 ++ t.0) ++ rest = n.2 ∙ (ap (λ (zs : List ℕ). n.0 ++ zs) t.2 ∙ sym (append_assoc n.0 t.0 rest)) in
+    (locals_kind ∷ (n.0 ++ t.0), (n.0, t.0, subst (λ m. Spells n.0 m) (sym t.1.0) n.1, t.1.1, refl), k ∙ ap (λ (zs : List ℕ). locals_kind ∷ zs) joined)
 
 pub chosen : {A : Type 0} (b : Bool) (x y z : A) → cond b x y ≡ z → ((b ≡ true) × (x ≡ z)) ⊎ (y ≡ z)
 chosen true x y z h = inl (refl, h)
@@ -284,10 +276,10 @@ head-found (byte ∷ bytes) rest has_this h =
       ]
     ]
 
-pub method-found : (bytes : List ℕ) (sig : MethodSig) → AreBytes bytes → whole (method_at bytes) ≡ Ok sig → SpellsMethod sig bytes
+pub method-found : (bytes rest : List ℕ) (sig : MethodSig) → AreBytes bytes → method_at bytes ≡ Ok (sig, rest) → Takes SpellsMethod bytes sig rest
 unfolding method_at
-method-found bytes sig small h =
-    let a = bind_pair (head_at bytes) _ _ (whole_ok (method_at bytes) sig h) in
+method-found bytes rest sig small h =
+    let a = bind_pair (head_at bytes) _ _ h in
     let head = head-found bytes a.1 a.0 a.2 in
     let small_a = bytes-after bytes (head_of a.0 ∷ []) a.1 head small in
     let b = bind_pair (number_at a.1) _ _ a.3 in
@@ -297,12 +289,13 @@ method-found bytes sig small h =
     let r = result-found b.1 c.1 c.0 small_b c.2 in
     let d = bind_pair (sigs_at b.0 c.1) _ _ c.3 in
     let t = sigs-found b.0 c.1 d.1 d.0 (bytes-after b.1 r.0 c.1 r.2 small_b) d.2 in
-    let e = ok_pair (record { has_this = a.0; result = c.0; params = d.0 }) sig d.1 [] _ refl d.3 in
-    let types : c.1 ≡ t.0 = t.2 ∙ (ap (λ (zs : List ℕ). t.0 ++ zs) e.1 ∙ append-nil t.0) in
-    let joined : bytes ≡ head_of a.0 ∷ (n.0 ++ (r.0 ++ t.0)) =
-    head ∙ ap (λ (zs : List ℕ). head_of a.0 ∷ zs) (n.2 ∙ ap (λ (zs : List ℕ). n.0 ++ zs) (r.2 ∙ ap (λ (zs : List ℕ). r.0 ++ zs) types)) in
-    subst (λ (s : MethodSig). SpellsMethod s bytes) e.0
-    (n.0, r.0, t.0, subst (λ m. Spells n.0 m) (sym t.1.0) n.1, r.1, t.1.1, joined)
+    let types : b.1 ≡ (r.0 ++ t.0) ++ d.1 = r.2 ∙ (ap (λ (zs : List ℕ). r.0 ++ zs) t.2 ∙ sym (append_assoc r.0 t.0 d.1)) in
+    let counted : a.1 ≡ (n.0 ++ (r.0 ++ t.0)) ++ d.1 = n.2 ∙ (ap (λ (zs : List ℕ). n.0 ++ zs) types ∙ sym (append_assoc n.0 (r.0 ++ t.0) d.1)) in
+    takes-same SpellsMethod bytes (record { has_this = a.0; result = c.0; params = d.0 }) sig d.1 rest d.3 (
+      head_of a.0 ∷ (n.0 ++ (r.0 ++ t.0)),
+      (n.0, r.0, t.0, subst (λ m. Spells n.0 m) (sym t.1.0) n.1, r.1, t.1.1, refl),
+      head ∙ ap (λ (zs : List ℕ). head_of a.0 ∷ zs) counted,
+    )
 
 bytes-take : (n : ℕ) (bytes : List ℕ) → AreBytes bytes → AreBytes (take n bytes)
 bytes-take zero bytes small k = omega arith

@@ -4,7 +4,9 @@ pub mod Depth
 pub mod Closing
 pub mod Found
 pub mod Again
-pub mod Both
 pub mod Equal
 pub mod Splits
-pub mod Places
+pub mod Halts
+pub mod Halted
+pub mod Readers
+pub mod Numbered

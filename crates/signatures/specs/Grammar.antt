@@ -1,7 +1,7 @@
 -- The grammar of signatures (ECMA-335 II.23.2). What is read at the front of bytes is given with the
 -- bytes after it. A reading ends where the grammar does not go on, or at a thing that is left out.
--- Own: modifiers may stand before any type and before VOID, a count may be 0 also in a GENERICINST and in a
--- LocalVarSig, and a method with an explicit `this` has no reading.
+-- Own: modifiers may stand before an argument of a GENERICINST and in a TypeSpec too, a count may be 0 also in a
+-- GENERICINST and in a LocalVarSig, and a method with an explicit `this` has no reading.
 use Rattle.std.specs.Prelude.{ℕ, zero, suc, ◌+◌, ◌%◌, ◌==◌, ◌||◌, Bool, true, false, nat_lt, if◌then◌else◌, List, [], ◌∷◌, length, drop, Option, Some, None, Result, Ok, Err}
 use Rattle.std.specs.Option.{option_map_or}
 use Rattle.cli_words.specs.Compressed.{number_at_front}
@@ -13,7 +13,8 @@ use Rattle.signatures.specs.declared.sig.SigPart.TheVariants as part
 use Rattle.signatures.specs.declared.sig.MethodSig.{MethodSig}
 use Rattle.signatures.specs.declared.element.Element.{Element}
 use Rattle.signatures.specs.declared.element.Element.TheVariants.{Prim, Class, Var, Inst, Vector, Feature}
-use Rattle.signatures.specs.Elements.{element_of}
+use Rattle.signatures.specs.Elements.{element_of, void_byte, value_type_byte, class_byte, cmod_reqd, cmod_opt}
+use Rattle.signatures.specs.Kinds.{field_kind, locals_kind, default_head, default_this_head, generic_head, generic_this_head, vararg_head, vararg_this_head}
 use Rattle.signatures.specs.Types.{arity}
 
 -- what is read at the front of bytes, and the bytes after it, or why the reading ends
@@ -44,17 +45,21 @@ after_number bytes None = Err (stop.Bad (unread bytes))
 unfoldable pub number_at : List ℕ → Reading ℕ
 number_at bytes = after_number bytes (number_at_front bytes)
 
+-- the tag that names no table in a TypeDefOrRefOrSpecEncoded (II.23.2.8)
+abbrev pub no_table : ℕ
+no_table = 3
+
 -- a TypeDefOrRefOrSpecEncoded (II.23.2.8): a number whose tag names a table. The last byte of the
 -- number has the tag
 unfoldable pub class_at : List ℕ → Reading ℕ
 class_at bytes = do
   class ← number_at bytes
-  if class.0 % 4 == 3 then Err (stop.Bad (length class.1 + 1)) else Ok class
+  if class.0 % 4 == no_table then Err (stop.Bad (length class.1 + 1)) else Ok class
 
 -- the bytes after a first byte of CMOD_REQD or CMOD_OPT (II.23.2.7)
 abbrev pub past_modifier : List ℕ → Option (List ℕ)
 past_modifier [] = None
-past_modifier (byte ∷ rest) = if (byte == 0x1F) || (byte == 0x20) then Some rest else None
+past_modifier (byte ∷ rest) = if (byte == cmod_reqd) || (byte == cmod_opt) then Some rest else None
 
 -- the bytes after so many CustomMods (II.23.2.7) at the most
 unfoldable pub after_modifiers : ℕ → List ℕ → Result (List ℕ) Stop
@@ -71,12 +76,12 @@ modifiers_at bytes = after_modifiers (length bytes) bytes
 unfoldable pub generic_at : List ℕ → Reading SigPart
 generic_at [] = nothing_at []
 generic_at (byte ∷ rest) =
-    if byte == 0x12
+    if byte == class_byte
     then (do
       class ← class_at rest
       args ← number_at class.1
       Ok (part.Inst class.0 args.0, args.1))
-    else (if byte == 0x11 then Err (stop.Feature ValueType) else nothing_at (byte ∷ rest))
+    else (if byte == value_type_byte then Err (stop.Feature ValueType) else nothing_at (byte ∷ rest))
 
 -- the rest of a part that a byte began
 abbrev pub begun : List ℕ → Option Element → List ℕ → Reading SigPart
@@ -114,7 +119,7 @@ type_at bytes = types_at (length bytes) 1 bytes
 abbrev pub bare_result_at : List ℕ → Reading (Option (List SigPart))
 bare_result_at [] = nothing_at []
 bare_result_at (byte ∷ rest) =
-    if byte == 0x01 then Ok (None, rest)
+    if byte == void_byte then Ok (None, rest)
     else (type_at (byte ∷ rest) >>= λ type. Ok (Some type.0, type.1))
 
 -- a RetType (II.23.2.11): a type, or VOID
@@ -139,10 +144,10 @@ after_kind kind (byte ∷ rest) = if byte == kind then Ok rest else nothing_at (
 unfoldable pub head_at : List ℕ → Reading Bool
 head_at [] = nothing_at []
 head_at (byte ∷ rest) =
-    if byte == 0x00 then Ok (false, rest)
-    else (if byte == 0x20 then Ok (true, rest)
-    else (if (byte == 0x10) || (byte == 0x30) then Err (stop.Feature GenericMethod)
-    else (if (byte == 0x05) || (byte == 0x25) then Err (stop.Feature Varargs)
+    if byte == default_head then Ok (false, rest)
+    else (if byte == default_this_head then Ok (true, rest)
+    else (if (byte == generic_head) || (byte == generic_this_head) then Err (stop.Feature GenericMethod)
+    else (if (byte == vararg_head) || (byte == vararg_this_head) then Err (stop.Feature Varargs)
     else nothing_at (byte ∷ rest))))
 
 -- a MethodDefSig (II.23.2.1)
@@ -157,10 +162,10 @@ method_at bytes = do
 -- a LocalVarSig (II.23.2.6)
 unfoldable pub locals_at : List ℕ → Reading (List (List SigPart))
 locals_at bytes = do
-  begun ← after_kind 0x07 bytes
+  begun ← after_kind locals_kind bytes
   count ← number_at begun
   sigs_at count.0 count.1
 
 -- a FieldSig (II.23.2.4)
 unfoldable pub field_at : List ℕ → Reading (List SigPart)
-field_at bytes = after_kind 0x06 bytes >>= type_at
+field_at bytes = after_kind field_kind bytes >>= type_at

@@ -1,10 +1,10 @@
 -- Keys of closed types, as lists of parts from the left, each part before the types that it is made
 -- of (own).
-use Rattle.std.specs.Prelude.{◌≡◌, Option, Some, None, ℕ, ◌+◌, ◌==◌, ◌&&◌, ◌||◌, not, nat_lt, max, Bool, true, List, [], ◌∷◌, map, take, drop, length, IsTrue}
-use Rattle.std.specs.List.{AllByRecursion, flat_map, list_all}
+use Rattle.std.specs.Prelude.{Option, Some, None, ℕ, ◌+◌, ◌==◌, ◌&&◌, ◌||◌, not, nat_lt, max, Bool, true, List, [], ◌∷◌, take, drop, length, IsTrue}
+use Rattle.std.specs.List.{list_all}
 use Rattle.signatures.specs.declared.key.KeyPart.{KeyPart}
 use Rattle.signatures.specs.declared.key.KeyPart.TheVariants.{Prim, Class, Vector}
-use Rattle.signatures.specs.Types.{are_types}
+use Rattle.signatures.specs.Types.{IsType}
 
 -- how many types come next, of which a part is made
 abbrev pub key_arity : KeyPart → ℕ
@@ -14,7 +14,7 @@ key_arity Vector = 1
 
 -- the parts are one type
 abbrev pub IsKey : List KeyPart → Type 0
-IsKey parts = IsTrue (are_types 1 (map key_arity parts))
+IsKey parts = IsType key_arity parts
 
 -- a part is no row of assembly 0 that has a key of its own: System.Object is row 1, System.String 2
 abbrev pub is_proper : KeyPart → Bool
@@ -51,7 +51,3 @@ element_of [] = None
 element_of (Prim prim ∷ parts) = None
 element_of (Class assembly row args ∷ parts) = None
 element_of (Vector ∷ parts) = Some parts
-
--- keys one after another are the parts that come after the first
-abbrev pub AreMadeOf : List KeyPart → List (List KeyPart) → Type 0
-AreMadeOf parts keys = (flat_map (λ key. key) keys ≡ drop 1 parts) × AllByRecursion IsKey keys

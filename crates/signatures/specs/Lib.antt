@@ -1,9 +1,11 @@
 pub mod Features
 pub mod Types
 pub mod Elements
+pub mod Kinds
 pub mod Grammar
 pub mod Signatures
 pub mod Keys
 pub mod SameKeys
 pub mod Substitution
 pub mod Spelling
+pub mod Laws

@@ -1,26 +1,28 @@
 -- How signatures are spelled in bytes (ECMA-335 II.23.2): the grammar from its values, apart from how
 -- bytes are read.
--- Own: modifiers may stand before any type and before VOID, and a count may be 0 also in a GENERICINST and in
--- a LocalVarSig.
+-- Own: modifiers may stand before an argument of a GENERICINST and in a TypeSpec too, and a count may be 0 also
+-- in a GENERICINST and in a LocalVarSig.
 use Rattle.std.specs.Prelude.{◌≡◌, ◌≢◌, ℕ, zero, suc, ◌%◌, ◌⊎◌, Bool, true, false, List, [], ◌∷◌, ◌++◌, length, Option, Some, None}
 use Rattle.cli_words.specs.Compressed.{Spells}
 use Rattle.signatures.specs.declared.sig.SigPart.{SigPart}
 use Rattle.signatures.specs.declared.sig.SigPart.TheVariants.{Prim, Class, Var, Inst, Vector}
 use Rattle.signatures.specs.declared.sig.MethodSig.{MethodSig}
 use Rattle.signatures.specs.declared.element.Element.TheVariants as element
-use Rattle.signatures.specs.Elements.{element_of}
+use Rattle.signatures.specs.Elements.{element_of, void_byte, class_byte, cmod_reqd, cmod_opt}
+use Rattle.signatures.specs.Kinds.{field_kind, locals_kind, head_of}
+use Rattle.signatures.specs.Grammar.{no_table}
 use Rattle.signatures.specs.Types.{IsSig}
 
 -- a TypeDefOrRefOrSpecEncoded (II.23.2.8): its tag is that of a table
 abbrev pub SpellsClass : List ℕ → ℕ → Type 0
-SpellsClass bytes class = Spells bytes class × (class % 4 ≢ 3)
+SpellsClass bytes class = Spells bytes class × (class % 4 ≢ no_table)
 
 -- so many CustomMods (II.23.2.7): CMOD_REQD or CMOD_OPT, and a class
 abbrev pub SpellsModifiers : ℕ → List ℕ → Type 0
 SpellsModifiers zero bytes = bytes ≡ []
 SpellsModifiers (suc count) bytes =
     (byte : ℕ) × (number : List ℕ) × (class : ℕ) × (more : List ℕ)
-    × ((byte ≡ 0x1F) ⊎ (byte ≡ 0x20)) × SpellsClass number class × SpellsModifiers count more
+    × ((byte ≡ cmod_reqd) ⊎ (byte ≡ cmod_opt)) × SpellsClass number class × SpellsModifiers count more
     × (bytes ≡ byte ∷ (number ++ more))
 
 abbrev pub AreModifiers : List ℕ → Type 0
@@ -38,7 +40,7 @@ SpellsPart (Var n) bytes =
     × (bytes ≡ byte ∷ number)
 SpellsPart (Inst class args) bytes =
     (byte : ℕ) × (number : List ℕ) × (count : List ℕ) × (element_of byte ≡ Some element.Inst)
-    × SpellsClass number class × Spells count args × (bytes ≡ byte ∷ 0x12 ∷ (number ++ count))
+    × SpellsClass number class × Spells count args × (bytes ≡ byte ∷ class_byte ∷ (number ++ count))
 SpellsPart Vector bytes = (byte : ℕ) × (element_of byte ≡ Some element.Vector) × (bytes ≡ byte ∷ [])
 
 -- parts one after another, each after its modifiers
@@ -63,22 +65,17 @@ SpellsTypes (sig ∷ sigs) bytes =
 -- a RetType (II.23.2.11): a type, or VOID after its modifiers
 abbrev pub SpellsResult : Option (List SigPart) → List ℕ → Type 0
 SpellsResult (Some sig) bytes = SpellsType sig bytes
-SpellsResult None bytes = (modifiers : List ℕ) × AreModifiers modifiers × (bytes ≡ modifiers ++ 0x01 ∷ [])
+SpellsResult None bytes = (modifiers : List ℕ) × AreModifiers modifiers × (bytes ≡ modifiers ++ void_byte ∷ [])
 
 -- a FieldSig (II.23.2.4)
 abbrev pub SpellsField : List SigPart → List ℕ → Type 0
-SpellsField sig bytes = (type : List ℕ) × SpellsType sig type × (bytes ≡ 0x06 ∷ type)
+SpellsField sig bytes = (type : List ℕ) × SpellsType sig type × (bytes ≡ field_kind ∷ type)
 
 -- a LocalVarSig (II.23.2.6)
 abbrev pub SpellsLocals : List (List SigPart) → List ℕ → Type 0
 SpellsLocals sigs bytes =
     (count : List ℕ) × (types : List ℕ) × Spells count (length sigs) × SpellsTypes sigs types
-    × (bytes ≡ 0x07 ∷ (count ++ types))
-
--- DEFAULT, with HASTHIS or without
-abbrev pub head_of : Bool → ℕ
-head_of true = 0x20
-head_of false = 0x00
+    × (bytes ≡ locals_kind ∷ (count ++ types))
 
 -- a MethodDefSig (II.23.2.1)
 abbrev pub SpellsMethod : MethodSig → List ℕ → Type 0

@@ -70,9 +70,9 @@ Refuses Deep key = key ≡ Err Deep
 Refuses OutOfMemory key = Unit {0}
 
 -- what a call answered is the key, or why there is none, unless memory was wanting
-abbrev pub Answers : Result (List KeyPart) KeyFault → Result (List KeyPart) KeyFault → Type 0
-Answers (Ok parts) key = key ≡ Ok parts
-Answers (Err fault) key = Refuses fault key
+abbrev pub GivesKey : Result (List KeyPart) KeyFault → Result (List KeyPart) KeyFault → Type 0
+GivesKey (Ok parts) key = key ≡ Ok parts
+GivesKey (Err fault) key = Refuses fault key
 
 -- the parts are a type that lacks as many types at its end
 abbrev pub StandsFor : ℕ → List KeyPart → Type 0

@@ -36,12 +36,13 @@ pub enum KeyFault {
     OutOfMemory,
 }
 
-/// Where a reading of a blob ends.
+/// Where the reading of a blob stops, by the blob alone: contracts say with it what a blob is.
 #[derive(Clone, Copy, PartialEq, Eq, Debug)]
-pub(crate) enum Stop {
-    /// No reading goes on at the byte from which this many bytes of the blob are left.
+pub enum Stop {
+    /// No reading goes on at the byte from which this many bytes of the blob are left; with none
+    /// left, the blob is cut.
     Bad { left: usize },
-    /// Something that is left out.
+    /// The first thing that is left out.
     Feature { feature: Feature },
 }
 

@@ -1,13 +1,12 @@
 //! Keys of closed types: types in which each class is the row of an assembly and no type variable
 //! is left.
-ghost use Rattle.std.specs.Prelude.{◌≡◌, ◌↔◌, List, IsTrue, IfOk};
-ghost use Rattle.signatures.specs.declared.key.KeyPart.{KeyPart};
-ghost use Rattle.signatures.specs.SameKeys.{same_key};
+ghost use Rattle.std.specs.Prelude.{◌≡◌, IfOk};
 ghost use Rattle.signatures.specs.Keys.{IsKey, IsProper, IsTypeKey, key_arity};
-ghost use Rattle.signatures.specs.Keys.{element_of, AreMadeOf};
+ghost use Rattle.signatures.specs.Keys.{element_of};
+ghost use Rattle.signatures.specs.Types.{AreMadeOf};
 
-use crate::made_of::{element, made_of};
-use crate::sig::Prim;
+use crate::made_of::{element, keys_of};
+use crate::sig::Primitive;
 use std::alloc::{AllocError, Global};
 use std::marker::Model;
 use std::sync::Arc;
@@ -16,7 +15,7 @@ use std::sync::Arc;
 #[derive(Clone, Copy, PartialEq, Eq, Debug)]
 pub enum KeyPart {
     /// A type with a key of its own.
-    Prim(Prim),
+    Prim(Primitive),
     /// The TypeDef row, from 1, of an assembly, with this many arguments, which come next.
     Class { assembly: u32, row: u32, args: u32 },
     /// An array from index 0, of one dimension, of the type that comes next.
@@ -122,9 +121,9 @@ impl TypeKey {
 
     /// The keys of the arguments of a class, or of the element of an array, in their order.
     pub fn made_of(&self, alloc: Global) -> Result<Vec<TypeKey>, AllocError>
-        ensures { IfOk result (λ keys. AreMadeOf self.now keys.items) }
+        ensures { IfOk result (λ keys. AreMadeOf key_arity self.now keys.items) }
     {
-        made_of(alloc, self.key().parts())
+        keys_of(alloc, self.key().parts())
     }
 
     /// One more owner of the key. It can be refused, as memory can.
@@ -156,14 +155,3 @@ impl Eq for TypeKey {
 
     ghost laws = { lists_equiv laws-law };
 }
-
-/// Keys are equal by `==` exactly where they are the same.
-pub fn equal_keys_are_same()
-    ensures { (a b : List KeyPart) → IsTrue (same_key a b) ↔ (a ≡ b) }
-{}
-
-/// The keys that a key is made of are one list.
-pub fn keys_made_of_are_one_list()
-    ensures { (parts : List KeyPart) (a b : List (List KeyPart)) →
-        AreMadeOf parts a → AreMadeOf parts b → a ≡ b }
-{}

@@ -8,12 +8,21 @@ ghost use Rattle.signatures.specs.Signatures.{Agrees};
 use crate::fault::Stop;
 use cli_words::read_compressed;
 
-/// The table that no TypeDefOrRef number has. ECMA-335 II.23.2.8.
+/// The tag that names no table in a TypeDefOrRef number. ECMA-335 II.23.2.8.
 const NO_TABLE: u32 = 3;
+
+/// The first bytes that no number begins with. ECMA-335 II.23.2.
+const NO_NUMBER: u8 = 0xE0;
+
+/// CMOD_REQD, which begins a custom modifier. ECMA-335 II.23.1.16.
+const CMOD_REQD: u8 = 0x1F;
+
+/// CMOD_OPT, which begins another.
+const CMOD_OPT: u8 = 0x20;
 
 /// The compressed number at the front of the bytes, and the bytes after it. ECMA-335 II.23.2.
 #[tactic(auto, unfolding(crate::specs::Grammar::number_at))]
-pub(crate) fn number(bytes: &[u8]) -> Result<(u32, &[u8]), Stop>
+pub(crate) fn read_number(bytes: &[u8]) -> Result<(u32, &[u8]), Stop>
     ensures read { Agrees (λ x. (x.0, x.1.now)) result (number_at bytes.now) }
     ensures within { IfOk result (λ x. length x.1.now ≤ length bytes.now) }
 {
@@ -30,18 +39,18 @@ fn unread(bytes: &[u8]) -> usize
     ensures { result ≡ unread bytes.now }
 {
     match bytes {
-        [0xE0..=0xFF, ..] => bytes.len(),
+        [byte, ..] if *byte >= NO_NUMBER => bytes.len(),
         _ => 0,
     }
 }
 
 /// The TypeDefOrRef number at the front of the bytes, and the bytes after it. ECMA-335 II.23.2.8.
 #[tactic(auto, unfolding(crate::specs::Grammar::class_at))]
-pub(crate) fn class(bytes: &[u8]) -> Result<(u32, &[u8]), Stop>
+pub(crate) fn read_class(bytes: &[u8]) -> Result<(u32, &[u8]), Stop>
     ensures read { Agrees (λ x. (x.0, x.1.now)) result (class_at bytes.now) }
     ensures within { IfOk result (λ x. length x.1.now ≤ length bytes.now) }
 {
-    let (class, rest) = number(bytes)?;
+    let (class, rest) = read_number(bytes)?;
     if class % 4 == NO_TABLE {
         return Err(Stop::Bad {
             left: rest.len() + 1,
@@ -51,13 +60,13 @@ pub(crate) fn class(bytes: &[u8]) -> Result<(u32, &[u8]), Stop>
 }
 
 /// The bytes after the modifiers at the front. ECMA-335 II.23.2.7.
-pub(crate) fn modifiers(bytes: &[u8]) -> Result<&[u8], Stop>
+pub(crate) fn read_modifiers(bytes: &[u8]) -> Result<&[u8], Stop>
     ensures read { Agrees (λ x. x.now) result (modifiers_at bytes.now) }
     ensures within { IfOk result (λ x. length x.now ≤ length bytes.now) }
 {
     let mut rest = bytes;
     while let Some(modified) = past_modifier(rest) {
-        let (_, after) = class(modified)?;
+        let (_, after) = read_class(modified)?;
         rest = after;
     }
     Ok(rest)
@@ -68,14 +77,14 @@ fn past_modifier(bytes: &[u8]) -> Option<&[u8]>
     ensures { option_map (λ x. x.now) result ≡ past_modifier bytes.now }
 {
     match bytes {
-        [0x1F | 0x20, rest @ ..] => Some(rest),
+        [CMOD_REQD | CMOD_OPT, rest @ ..] => Some(rest),
         _ => None,
     }
 }
 
 /// The bytes after a first byte of this kind.
 #[tactic(auto, unfolding(crate::specs::Grammar::after_kind))]
-pub(crate) fn after_kind(kind: u8, bytes: &[u8]) -> Result<&[u8], Stop>
+pub(crate) fn read_kind(kind: u8, bytes: &[u8]) -> Result<&[u8], Stop>
     ensures read { Agrees (λ x. x.now) result (after_kind kind bytes.now) }
 {
     match bytes {

@@ -1,13 +1,16 @@
 //! Types as signatures have them.
-ghost use Rattle.std.specs.Prelude.{◌≡◌, [], ◌∷◌};
-ghost use Rattle.signatures.specs.Types.{IsSig, arity};
+ghost use Rattle.std.specs.Prelude.{◌≡◌, IfOk};
+ghost use Rattle.signatures.specs.Types.{IsSig, AreMadeOf, arity};
 
+use crate::made_of::sigs_of;
+use cli_words::Listed;
+use std::alloc::{AllocError, Global};
 use std::marker::Model;
 
 /// A type that has a key of its own: twelve numbers, `Text` for System.String and `Object` for
 /// System.Object. ECMA-335 II.23.1.16.
 #[derive(Clone, Copy, PartialEq, Eq, Debug)]
-pub enum Prim {
+pub enum Primitive {
     Bool,
     Char,
     Int8,
@@ -29,7 +32,7 @@ pub enum Prim {
 #[derive(Clone, Copy, PartialEq, Eq, Debug)]
 pub enum SigPart {
     /// A type with a key of its own.
-    Prim(Prim),
+    Prim(Primitive),
     /// The class of a TypeDefOrRef number.
     Class(u32),
     /// The type parameter of this number, from 0.
@@ -89,45 +92,18 @@ impl Sig {
     {
         self.parts.as_slice()
     }
-}
 
-/// Types that contracts see as a list.
-#[derive(Debug, Drop)]
-pub struct Sigs {
-    items: Vec<Sig>,
-}
-
-impl Model for Sigs {
-    ghost use Rattle.std.specs.Prelude.{List};
-    ghost use Rattle.signatures.specs.declared.sig.SigPart.{SigPart};
-
-    ghost Value = { List (List SigPart) };
-
-    ghost view = { λ sigs. sigs.items.items };
-}
-
-impl Sigs {
-    /// The types of a `Vec`.
-    pub fn of(items: Vec<Sig>) -> Sigs
-        ensures { result ≡ items.items }
+    /// The types of the arguments of a generic class, or of the element of an array, in their
+    /// order.
+    pub fn made_of(&self, alloc: Global) -> Result<Vec<Sig>, AllocError>
+        ensures { IfOk result (λ sigs. AreMadeOf arity self.now sigs.items) }
     {
-        Sigs { items }
-    }
-
-    /// The types, in their order.
-    pub fn items(&self) -> &[Sig]
-        ensures { result.now ≡ self.now }
-    {
-        self.items.as_slice()
-    }
-
-    /// The `Vec` that it was made of.
-    pub fn into_vec(self) -> Vec<Sig>
-        ensures { result.items ≡ self }
-    {
-        self.items
+        sigs_of(alloc, self.parts())
     }
 }
+
+/// Types, one after another.
+pub type Sigs = Listed<Sig>;
 
 /// The signature of a method. ECMA-335 II.23.2.1.
 #[derive(Debug, Drop)]

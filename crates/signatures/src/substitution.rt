@@ -7,7 +7,7 @@ ghost use Rattle.signatures.specs.Types.{IsSig, arity};
 ghost use Rattle.signatures.specs.Keys.{IsProper, IsTypeKey};
 ghost use Rattle.signatures.specs.Substitution.{class_key, with_args, closed_part, closed, lacks};
 ghost use Rattle.signatures.specs.Substitution.{is_definition, has_class, HasClasses, key_of};
-ghost use Rattle.signatures.specs.Substitution.{Answers, StandsFor, Passes};
+ghost use Rattle.signatures.specs.Substitution.{GivesKey, StandsFor, Passes};
 
 use crate::fault::KeyFault;
 use crate::key::{Key, KeyPart, TypeKey};
@@ -33,7 +33,7 @@ pub fn substitute(
     args: &[TypeKey],
 ) -> Result<TypeKey, KeyFault>
     requires { HasClasses classes.now sig.now }
-    ensures { Answers result (key_of classes.now args.now sig.now) }
+    ensures { GivesKey result (key_of classes.now args.now sig.now) }
 {
     if lacks_argument(sig.parts(), args.len()) {
         return Err(KeyFault::Index);

@@ -1,7 +1,7 @@
 use Rattle.std.proofs.Common.{◌≡◌, ◌∙◌, List, ℕ, ◌∷◌, [], ◌++◌, Bool, not, subst, sym, ap, length}
 use Rattle.std.proofs.Common.{arith}
 use Rattle.std.specs.Prelude.{if◌then◌else◌}
-use Rattle.il_reader.specs.Boundaries.{IsPath}
+use Rattle.il_reader.specs.Offsets.{IsPath}
 use Rattle.il_reader.specs.Instructions.{instruction_at}
 use Rattle.il_reader.specs.declared.fault.IlFault.TheVariants.{Bad}
 use Rattle.il_reader.proofs.Paths.{IsPath-push, found, one_list}

@@ -1,5 +1,5 @@
 use Rattle.std.proofs.Common.{◌-◌, ◌≤◌, length}
-use Rattle.il_reader.specs.Boundaries.{IsPath}
+use Rattle.il_reader.specs.Offsets.{IsPath}
 use Rattle.il_reader.proofs.offsets.boundaries.Given as goal
 
 abbrev pub invariant-loop-at : goal.invariant-loop-at

@@ -2,7 +2,7 @@ use Rattle.std.proofs.Common.{◌≡◌, ℕ, ◌+◌, ◌-◌, List, [], ◌∷
 use Rattle.signatures.specs.Keys.{key_arity, greatest}
 use Rattle.signatures.proofs.Depth.{levels_next, levels_bound, levels_done, greatest-drop}
 use Rattle.signatures.specs.declared.key.KeyPart.TheVariants.{Prim}
-use Rattle.signatures.specs.declared.sig.Prim.TheVariants.{Bool}
+use Rattle.signatures.specs.declared.sig.Primitive.TheVariants.{Bool}
 use Rattle.signatures.proofs.levels.levels.Goals as goal
 
 pub level_over-level-requires-clause-short : goal.level_over-level-requires-clause-short

@@ -1,7 +1,7 @@
 use Rattle.std.proofs.Common.{◌≡◌, ◌+◌, List, [], ◌∷◌, ◌++◌, map, take, get_or, true, sym, ap, ◌∙◌, arith}
 use Rattle.std.proofs.lemmas.Result.{err_from_is_err_and}
 use Rattle.std.proofs.lemmas.List.{map_more, take_all, append-nil}
-use Rattle.signatures.specs.declared.sig.Prim.TheVariants.{Bool}
+use Rattle.signatures.specs.declared.sig.Primitive.TheVariants.{Bool}
 use Rattle.signatures.specs.declared.sig.SigPart.TheVariants.{Prim}
 use Rattle.signatures.specs.Types.{arity, are_types}
 use Rattle.signatures.specs.Keys.{key_arity}
