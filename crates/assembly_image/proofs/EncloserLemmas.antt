@@ -6,8 +6,8 @@ use Rattle.std.proofs.lemmas.List.{get_or-replicate}
 use Rattle.std.proofs.lemmas.Option.{slice_get-get_or}
 use Rattle.std.specs.List.{range_with_len, slice_index, slice_get}
 use Rattle.std.specs.Option.{unwrap_or}
-use Rattle.metadata_tables.specs.Columns.{columns_of}
-use Rattle.assembly_image.specs.Cells.{column_of, holds_number}
+use Rattle.metadata_tables.specs.Columns.{columns_of, column_of}
+use Rattle.assembly_image.specs.Cells.{holds_number}
 use Rattle.assembly_image.specs.Module.{Module, count, number}
 use Rattle.assembly_image.specs.Names.{encloser, encloser_before, has_type}
 use Rattle.assembly_image.specs.Image.{outer_among, AreOuter, IsEnclosed}

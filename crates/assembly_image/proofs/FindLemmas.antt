@@ -1,16 +1,14 @@
 -- Rows that are sought by name.
-use Rattle.std.proofs.Common.{◌≡◌, ℕ, zero, suc, ◌+◌, ◌-◌, ◌<◌, ◌≤◌, nat_le, ◌&&◌, Bool, true, false, List, Some, None, inl, inr, refl, sym, ap, subst, ◌∙◌, arith}
+use Rattle.std.proofs.Common.{◌≡◌, ℕ, zero, suc, ◌+◌, ◌-◌, ◌<◌, ◌≤◌, Bool, true, false, List, Some, None, inl, inr, refl, sym, ap, subst, arith}
 use Rattle.std.proofs.lemmas.Bool.{cases_lt}
-use Rattle.std.proofs.lemmas.Bool.Decides.{nat_tests}
 use Rattle.std.proofs.Math.Nat.{mul-le-mul_left}
 use Rattle.std.specs.List.{find, range_with_len}
 use Rattle.std.specs.Str.{bytes_eq}
 use Rattle.metadata_tables.specs.declared.layout.Layout.{Layout}
-use Rattle.metadata_tables.specs.Columns.{columns_of}
 use Rattle.metadata_tables.specs.Layout.{count_of, row_size_of, rows_end}
 use Rattle.metadata_tables.proofs.LayoutLemmas.{row_room}
-use Rattle.assembly_image.specs.Module.{Module, count, number}
-use Rattle.assembly_image.specs.Names.{full_name, has_type, after_list, methods_of, method_name, method_of_name}
+use Rattle.assembly_image.specs.Module.{Module}
+use Rattle.assembly_image.specs.Names.{full_name}
 
 -- no number from the first on and below another passes
 abbrev pub NoneBetween : (ℕ → Bool) → ℕ → ℕ → Type 0
@@ -44,38 +42,9 @@ find_first p first (suc len) n low high here before =
           rw hit (ap Some (sym same))
     ]
 
--- a type that is sought, and a method
+-- a type that is sought
 abbrev pub is_type_sought : Module → List ℕ → ℕ → Bool
 is_type_sought m full row = bytes_eq (full_name m row) full
-
-abbrev pub is_method_sought : Module → ℕ → List ℕ → ℕ → Bool
-is_method_sought m from name n = nat_le from n && bytes_eq (method_name m n) name
-
--- a method that is sought in a type that is there
-module _ (m : Module) (row from : ℕ) (name : List ℕ) (first end : ℕ) (low : 1 ≤ row) (high : row ≤ count m 0x02)
-    (begins : first ≡ number m 0x02 row 5) (ends : end ≡ after_list m 0x06 row 5) where
-  held : methods_of m row ≡ range_with_len first (end - first)
-  held =
-      let there : has_type m row ≡ true = grind (arith, nat_tests) in
-      rw there
-      (ap (λ k. range_with_len k (after_list m 0x06 row 5 - k)) (sym begins)
-      ∙ ap (λ k. range_with_len first (k - first)) (sym ends))
-
-  abbrev is_sought : ℕ → Bool
-  is_sought = is_method_sought m from name
-
-  pub method_first : (n : ℕ) → first ≤ n → n < end → from ≤ n → bytes_eq (method_name m n) name ≡ true
-      → NoneBetween is_sought first n → method_of_name m row from name ≡ Some n
-  method_first n behind before after named none =
-      let late : nat_le from n ≡ true = grind (arith, nat_tests) in
-      let here : is_sought n ≡ true = rw (late, named) refl in
-      ap (find is_sought) held ∙ find_first is_sought first (end - first) n behind (omega arith) here none
-
-  pub method_none : (n : ℕ) → end ≤ n → NoneBetween is_sought first n → method_of_name m row from name ≡ None
-  method_none n past none =
-      let all : NoneBetween is_sought first (first + (end - first)) =
-      λ k behind before. none k behind (omega arith) in
-      ap (find is_sought) held ∙ find_none is_sought first (end - first) all
 
 -- a table whose rows take a byte or more has no more rows than bytes
 pub fewer_rows : (layout : Layout) (table : ℕ) → table < 45 → 1 ≤ row_size_of layout table
@@ -88,7 +57,3 @@ fewer_rows layout table known some =
           let each = mul-le-mul_left (count_of layout table - 1) some in
           omega arith
     ]
-
-pub method_bytes : (layout : Layout) → 1 ≤ row_size_of layout 0x06
-unfolding columns_of
-method_bytes layout = omega arith

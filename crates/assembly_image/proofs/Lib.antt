@@ -1,4 +1,3 @@
-pub mod Laws
 mod ZeroWithin
 mod RowLemmas
 mod PartLemmas
@@ -10,3 +9,9 @@ mod EncloserLemmas
 mod TextEnds
 mod NameLemmas
 mod FindLemmas
+mod Lists
+pub mod Facts
+mod MemberLemmas
+mod ScopeLemmas
+mod TextStarts
+mod IndexLemmas

@@ -75,11 +75,15 @@ module _ (bytes : List ℕ) (root : Root) (layout : Layout) where
       ]
 
   -- a table that is not there
+  pub rows_beyond : (table : ℕ) → 45 ≤ table → rows held table ≡ []
+  rows_beyond table h =
+      let long = length-map-range_with_len (rows_of bytes root layout) 0 45 in
+      get_or-eq_default held.tables [] {n = table} (omega (arith, long, h))
+
   pub cell_beyond : (table n k : ℕ) → 45 ≤ table → cell held table n k ≡ Number 0
   cell_beyond table zero k h = refl
   cell_beyond table (suc n) k h =
-      let long = length-map-range_with_len (rows_of bytes root layout) 0 45 in
-      let none : rows held table ≡ [] = get_or-eq_default held.tables [] {n = table} (omega (arith, long, h)) in
+      let none = rows_beyond table h in
       rw none refl
 
   -- what is no column of the row that it is sought in

@@ -7,7 +7,7 @@ use Rattle.std.proofs.lemmas.Slice.Eq.{bytes_eq-Decides}
 use Rattle.std.specs.Option.{option_map_or}
 use Rattle.std.specs.Str.{bytes_eq}
 use Rattle.assembly_image.specs.Module.{Module}
-use Rattle.assembly_image.specs.Names.{type_name, type_namespace, encloser, qualified, full_name_within}
+use Rattle.assembly_image.specs.Names.{type_name, type_namespace, encloser, qualified, nested_name, full_name_within}
 
 same_tests : (a b : Bool) → (a ≡ true → b ≡ true) → (b ≡ true → a ≡ true) → a ≡ b
 same_tests true b f g = sym (f refl)
@@ -116,3 +116,33 @@ module _ (m : Module) (row : ℕ) where
 
       pub enclosed_unslashed : ((front : List ℕ) → before ≢ front ++ 47 ∷ []) → matches ≡ false
       enclosed_unslashed other = after_slash ∙ other_end outer_name before (47 ∷ []) (47 ∷ []) refl other
+
+-- a name that is alone, one with its namespace, and the pieces of which it is put together
+pub qualified_is_alone : (namespace name : List ℕ) → length namespace ≡ 0 → qualified namespace name ≡ name
+qualified_is_alone namespace name none = rw none refl
+
+pub qualified_is_dotted : (namespace name : List ℕ) → ¬ (length namespace ≡ 0) → qualified namespace name ≡ namespace ++ (46 ∷ name)
+qualified_is_dotted namespace name some =
+    let more : (length namespace == 0) ≡ false = grind (arith, nat_tests) in
+    rw more refl
+
+pub three_joined : (old first last : List ℕ) (unit : ℕ) → ((old ++ first) ++ unit ∷ []) ++ last ≡ old ++ (first ++ (unit ∷ last))
+three_joined old first last unit =
+    append_assoc (old ++ first) (unit ∷ []) last ∙ append_assoc old first (unit ∷ last)
+
+-- the full name of what stands in nothing, and of what stands in another
+module _ (outer : ℕ → Option ℕ) (namespace name : ℕ → List ℕ) (row : ℕ) where
+  pub nested_first : (most : ℕ) → most ≡ 0 → nested_name outer namespace name most row ≡ qualified (namespace row) (name row)
+  nested_first most e = ap (λ (k : ℕ). nested_name outer namespace name k row) e
+
+  pub nested_alone : (most : ℕ) → outer row ≡ None → nested_name outer namespace name most row ≡ qualified (namespace row) (name row)
+  nested_alone zero e = refl
+  nested_alone (suc most) e =
+      ap (λ (o : Option ℕ). option_map_or (λ around. nested_name outer namespace name most around ++ (47 ∷ name row)) o (qualified (namespace row) (name row))) e
+
+  pub nested_inside : (most around : ℕ) → 0 < most → outer row ≡ Some around
+      → nested_name outer namespace name most row ≡ nested_name outer namespace name (most - 1) around ++ (47 ∷ name row)
+  nested_inside most around some e =
+      let next : most ≡ suc (most - 1) = omega arith in
+      ap (λ (k : ℕ). nested_name outer namespace name k row) next
+      ∙ ap (λ (o : Option ℕ). option_map_or (λ around. nested_name outer namespace name (most - 1) around ++ (47 ∷ name row)) o (qualified (namespace row) (name row))) e

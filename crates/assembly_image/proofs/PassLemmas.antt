@@ -2,17 +2,19 @@
 use Rattle.std.proofs.Common.{◌≡◌, ℕ, zero, suc, ◌+◌, ◌<◌, Bool, true, false, List, [], ◌∷◌, length, None, refl, subst, zero-add, arith}
 use Rattle.std.proofs.lemmas.Bool.Decides.{nat_tests}
 use Rattle.cli_words.specs.Check.{check, first_fault}
+use Rattle.cli_words.specs.declared.check.CheckCode.{CheckCode}
+use Rattle.cli_words.specs.declared.check.CheckCode.TheVariants as code
 use Rattle.cli_words.proofs.FirstFault.{Checks, both_none, none_of_each}
 use Rattle.meta_heaps.specs.declared.heap.Root.{Root}
 use Rattle.metadata_tables.specs.declared.layout.Layout.{Layout}
-use Rattle.metadata_tables.specs.Columns.{columns_of}
+use Rattle.metadata_tables.specs.Columns.{columns_of, column_of}
 use Rattle.metadata_tables.specs.Layout.{count_of, has_row}
-use Rattle.assembly_image.specs.Cells.{value_at, column_of}
+use Rattle.assembly_image.specs.Cells.{value_at}
 use Rattle.assembly_image.specs.Checks.{is_inside, is_in_order, is_text, has_assembly, value_before, column_checks, row_checks, table_checks, all_rows_checks, content_checks}
 use Rattle.assembly_image.proofs.ModuleLemmas.{known}
 
 -- a check that has no fault, in front of others
-passes : (b : Bool) (code at : ℕ) (rest : Checks) → first_fault (check b code at ∷ rest) ≡ None → (b ≡ true) × (first_fault rest ≡ None)
+passes : (b : Bool) (code : CheckCode) (at : ℕ) (rest : Checks) → first_fault (check b code at ∷ rest) ≡ None → (b ≡ true) × (first_fault rest ≡ None)
 passes true code at rest e = (refl, e)
 passes false code at rest e = absurd (cc)
 
@@ -21,7 +23,7 @@ module _ (bytes : List ℕ) (root : Root) (layout : Layout) (good : first_fault 
   rows_pass = (both_none (all_rows_checks bytes root layout) _ good).0
 
   pub assembly_passes : has_assembly bytes root layout ≡ true
-  assembly_passes = (passes (has_assembly bytes root layout) 16 root.tables.at [] (both_none (all_rows_checks bytes root layout) _ good).1).0
+  assembly_passes = (passes (has_assembly bytes root layout) code.NoAssembly root.tables.at [] (both_none (all_rows_checks bytes root layout) _ good).1).0
 
   table_passes : (table : ℕ) → table < 45 → first_fault (table_checks bytes root layout table) ≡ None
   table_passes table h =
@@ -46,9 +48,9 @@ module _ (bytes : List ℕ) (root : Root) (layout : Layout) (good : first_fault 
         × (is_in_order layout (column_of table k) (value_before bytes layout table n k) (value_at bytes layout table n k) ≡ true)
         × (is_text bytes root (column_of table k) (value_at bytes layout table n k) ≡ true)
     parts =
-        let first = passes _ 13 _ _ column_passes in
-        let second = passes _ 14 _ _ first.1 in
-        let third = passes _ 15 _ [] second.1 in
+        let first = passes _ code.Index _ _ column_passes in
+        let second = passes _ code.List _ _ first.1 in
+        let third = passes _ code.Text _ [] second.1 in
         (first.0, second.0, third.0)
 
     pub inside_passes : is_inside bytes root layout (column_of table k) (value_at bytes layout table n k) ≡ true

@@ -54,6 +54,11 @@ pub empty_units : (text : List ℕ) → IsUtf8 text → AreBothEmpty text (units
 empty_units text utf8 =
     subst (λ bytes. AreBothEmpty bytes (units_of text)) (encodes-chars text utf8) (both_empty (chars text))
 
+-- the text of a namespace that is not empty
+pub not_empty : (text namespace : List ℕ) → IsUtf8 text → units_of text ≡ namespace → ¬ (length text ≡ 0) → ¬ (length namespace ≡ 0)
+not_empty text namespace utf8 is some e =
+    some ((empty_units text utf8).1 (subst (λ (us : List ℕ). length us ≡ 0) (sym is) e))
+
 -- what is left of the units ends with what is left of the text just where the units end with the text
 pub record Left (units text rest left : List ℕ) : Type 0 where
   pub utf8 : IsUtf8 left

@@ -7,7 +7,8 @@ use Rattle.std.specs.List.{prefix_len, position, position_or_len}
 use Rattle.std.specs.Option.{option_map}
 use Rattle.std.specs.Str.{is_utf8}
 use Rattle.cli_words.specs.declared.span.Span.{Span}
-use Rattle.meta_heaps.specs.Heaps.{cut, zero_after, string_at}
+use Rattle.cli_words.specs.Span.{cut, zero_after}
+use Rattle.meta_heaps.specs.Heaps.{string_at}
 use Rattle.assembly_image.specs.Checks.{is_string}
 
 -- how many elements from the front on pass, where one of the first k does not

@@ -1,15 +1,16 @@
 -- The rows of a module as the bytes hold them: each is cut from the tables, and its texts and blobs from
 -- the heaps (ECMA-335 II.24.2.3, II.24.2.4, II.24.2.6).
-use Rattle.std.specs.Prelude.{ℕ, Bool, true, false, List, [], length, map, slice_index, slice_index_or, Option, Some, None}
+use Rattle.std.specs.Prelude.{ℕ, Bool, true, false, List, [], length, map, slice_index, Option, Some, None}
 use Rattle.std.specs.List.{range_with_len}
 use Rattle.cli_words.specs.Text.{units_of}
 use Rattle.cli_words.specs.declared.span.Span.{Span}
 use Rattle.meta_heaps.specs.declared.heap.Root.{Root}
-use Rattle.meta_heaps.specs.Heaps.{cut, string_at, blob_at}
+use Rattle.cli_words.specs.Span.{cut}
+use Rattle.meta_heaps.specs.Heaps.{string_at, blob_at}
 use Rattle.metadata_tables.specs.declared.layout.Layout.{Layout}
 use Rattle.metadata_tables.specs.declared.schema.Column.{Column}
-use Rattle.metadata_tables.specs.declared.schema.Column.TheVariants.{U8, U16, U32, Strings, Guid, Blob, Table, Run, Coded}
-use Rattle.metadata_tables.specs.Columns.{columns_of}
+use Rattle.metadata_tables.specs.declared.schema.Column.TheVariants.{U8, U16, U32, Strings, Guid, Blob, Table, List as ListColumn, Coded}
+use Rattle.metadata_tables.specs.Columns.{columns_of, column_of}
 use Rattle.metadata_tables.specs.Layout.{count_of, row_at, value_of}
 use Rattle.assembly_image.specs.Module.{Cell}
 use Rattle.assembly_image.specs.Module.Cell.{Number, Text, Bytes}
@@ -28,7 +29,7 @@ cell_of bytes root U16 value = Number value
 cell_of bytes root U32 value = Number value
 cell_of bytes root Guid index = Number index
 cell_of bytes root (Table table) row = Number row
-cell_of bytes root (Run table) row = Number row
+cell_of bytes root (ListColumn table) row = Number row
 cell_of bytes root (Coded index) value = Number value
 
 -- a column of this kind holds a number
@@ -40,7 +41,7 @@ holds_number U16 = true
 holds_number U32 = true
 holds_number Guid = true
 holds_number (Table table) = true
-holds_number (Run table) = true
+holds_number (ListColumn table) = true
 holds_number (Coded index) = true
 
 -- a column of this kind holds a text
@@ -52,12 +53,20 @@ holds_text U16 = false
 holds_text U32 = false
 holds_text Guid = false
 holds_text (Table table) = false
-holds_text (Run table) = false
+holds_text (ListColumn table) = false
 holds_text (Coded index) = false
 
--- the column of a table, counted from 0
-abbrev pub column_of : ℕ → ℕ → Column
-column_of table k = slice_index_or (columns_of table) k U8
+-- a column of this kind holds a blob
+abbrev pub holds_blob : Column → Bool
+holds_blob Blob = true
+holds_blob Strings = false
+holds_blob U8 = false
+holds_blob U16 = false
+holds_blob U32 = false
+holds_blob Guid = false
+holds_blob (Table table) = false
+holds_blob (ListColumn table) = false
+holds_blob (Coded index) = false
 
 -- the number that stands in a column of a row
 abbrev pub value_at : List ℕ → Layout → ℕ → ℕ → ℕ → ℕ
@@ -77,6 +86,6 @@ rows_of bytes root layout table =
     map (cells_of bytes root layout table) (range_with_len 1 (count_of layout table))
 
 -- the number in a column of a row that is there; 0 where there is none
-abbrev pub number_in : Option (List ℕ) → ℕ → ℕ
-number_in None k = 0
-number_in (Some row) k = slice_index row k
+abbrev pub value_in : Option (List ℕ) → ℕ → ℕ
+value_in None k = 0
+value_in (Some row) k = slice_index row k

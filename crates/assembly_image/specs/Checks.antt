@@ -3,16 +3,21 @@
 use Rattle.std.specs.Prelude.{ℕ, ◌+◌, ◌-◌, ◌*◌, Bool, true, false, not, ◌&&◌, ◌==◌, nat_lt, nat_le, List, [], ◌∷◌, ◌++◌, length, Option, Some, None, is_some, if◌then◌else◌}
 use Rattle.std.specs.List.{flat_map, range_with_len}
 use Rattle.std.specs.Str.{is_utf8}
-use Rattle.cli_words.specs.Check.{Fault, check}
+use Rattle.cli_words.specs.declared.check.FailedCheck.{FailedCheck}
+use Rattle.cli_words.specs.Check.{check}
+use Rattle.cli_words.specs.declared.check.CheckCode.{CheckCode}
+use Rattle.cli_words.specs.declared.check.CheckCode.TheVariants as code
 use Rattle.cli_words.specs.declared.span.Span.{Span}
 use Rattle.meta_heaps.specs.declared.heap.Root.{Root}
-use Rattle.meta_heaps.specs.Heaps.{cut, string_at, blob_at}
+use Rattle.cli_words.specs.Span.{cut}
+use Rattle.meta_heaps.specs.Heaps.{string_at, blob_at}
 use Rattle.metadata_tables.specs.declared.layout.Layout.{Layout}
 use Rattle.metadata_tables.specs.declared.schema.Column.{Column}
-use Rattle.metadata_tables.specs.declared.schema.Column.TheVariants.{U8, U16, U32, Strings, Guid, Blob, Table, Run, Coded}
-use Rattle.metadata_tables.specs.Columns.{columns_of, target_of}
+use Rattle.metadata_tables.specs.declared.schema.Column.TheVariants.{U8, U16, U32, Strings, Guid, Blob, Table, List as ListColumn, Coded}
+use Rattle.metadata_tables.specs.Columns.{columns_of, target_of, column_of}
+use Rattle.metadata_tables.specs.Tables as tables
 use Rattle.metadata_tables.specs.Layout.{count_of, column_at}
-use Rattle.assembly_image.specs.Cells.{bytes_in, column_of, value_at}
+use Rattle.assembly_image.specs.Cells.{bytes_in, value_at}
 
 -- the most bytes of a string (own)
 abbrev pub string_limit : ℕ
@@ -32,12 +37,12 @@ is_inside bytes root layout Strings index = nat_lt index root.strings.len
 is_inside bytes root layout Guid index = nat_le (16 * index) root.guids.len
 is_inside bytes root layout Blob index = is_some (blob_at bytes root.blobs index)
 is_inside bytes root layout (Table table) row = nat_le row (count_of layout table)
-is_inside bytes root layout (Run table) row = true
+is_inside bytes root layout (ListColumn table) row = true
 is_inside bytes root layout (Coded index) value = has_target layout (target_of index value)
 
 -- a list begins at a row of its table or right after the last, and not before the list of the row before
 abbrev pub is_in_order : Layout → Column → ℕ → ℕ → Bool
-is_in_order layout (Run table) before row =
+is_in_order layout (ListColumn table) before row =
     nat_le 1 row && (nat_le row (count_of layout table + 1) && nat_le before row)
 is_in_order layout U8 before value = true
 is_in_order layout U16 before value = true
@@ -61,50 +66,55 @@ is_text bytes root U32 value = true
 is_text bytes root Guid value = true
 is_text bytes root Blob value = true
 is_text bytes root (Table table) value = true
-is_text bytes root (Run table) value = true
+is_text bytes root (ListColumn table) value = true
 is_text bytes root (Coded index) value = true
 
 -- what stands in a column of the row before; for the first row 0
 abbrev pub value_before : List ℕ → Layout → ℕ → ℕ → ℕ → ℕ
 value_before bytes layout table n k = if n == 1 then 0 else value_at bytes layout table (n - 1) k
 
--- the checks of what stands in a column, with the place of the fault: 13 `index`, 14 `list`, 15 `text`
-abbrev pub value_checks : List ℕ → Root → Layout → Column → ℕ → ℕ → ℕ → List (Option Fault)
+-- a check that fails at a place
+abbrev pub failed_at : ℕ → CheckCode → FailedCheck
+failed_at at failed = record { code = failed; at = at }
+
+-- the checks of what stands in a column, with the place of which they speak
+abbrev pub value_checks : List ℕ → Root → Layout → Column → ℕ → ℕ → ℕ → List (Option FailedCheck)
 value_checks bytes root layout column before value at =
-    check (is_inside bytes root layout column value) 13 at
-    ∷ check (is_in_order layout column before value) 14 at
-    ∷ check (is_text bytes root column value) 15 at
+    check (is_inside bytes root layout column value) code.Index at
+    ∷ check (is_in_order layout column before value) code.List at
+    ∷ check (is_text bytes root column value) code.Text at
     ∷ []
 
-abbrev pub column_checks : List ℕ → Root → Layout → ℕ → ℕ → ℕ → List (Option Fault)
+abbrev pub column_checks : List ℕ → Root → Layout → ℕ → ℕ → ℕ → List (Option FailedCheck)
 column_checks bytes root layout table n k =
     value_checks bytes root layout (column_of table k)
     (value_before bytes layout table n k) (value_at bytes layout table n k) (column_at layout table n k)
 
-abbrev pub row_checks : List ℕ → Root → Layout → ℕ → ℕ → List (Option Fault)
+abbrev pub row_checks : List ℕ → Root → Layout → ℕ → ℕ → List (Option FailedCheck)
 row_checks bytes root layout table n =
     flat_map (column_checks bytes root layout table n) (range_with_len 0 (length (columns_of table)))
 
-abbrev pub table_checks : List ℕ → Root → Layout → ℕ → List (Option Fault)
+abbrev pub table_checks : List ℕ → Root → Layout → ℕ → List (Option FailedCheck)
 table_checks bytes root layout table =
     flat_map (row_checks bytes root layout table) (range_with_len 1 (count_of layout table))
 
-abbrev pub all_rows_checks : List ℕ → Root → Layout → List (Option Fault)
+abbrev pub all_rows_checks : List ℕ → Root → Layout → List (Option FailedCheck)
 all_rows_checks bytes root layout = flat_map (table_checks bytes root layout) (range_with_len 0 45)
 
 -- the bytes of the assembly's name (II.22.2)
 abbrev pub name_bytes : List ℕ → Root → Layout → List ℕ
-name_bytes bytes root layout = bytes_in bytes (string_at bytes root.strings (value_at bytes layout 0x20 1 7))
+name_bytes bytes root layout = bytes_in bytes (string_at bytes root.strings
+    (value_at bytes layout tables.assembly 1 tables.assembly_name))
 
 -- one Assembly row with a name that is not empty, a Module row and a TypeDef row (II.22.2, II.22.30,
 -- II.22.37; that a file without an Assembly row is refused, and one with more Module rows taken, is own)
 abbrev pub has_assembly : List ℕ → Root → Layout → Bool
 has_assembly bytes root layout =
-    count_of layout 0x20 == 1
+    count_of layout tables.assembly == 1
     && (not (length (name_bytes bytes root layout) == 0)
-    && (nat_le 1 (count_of layout 0x00) && nat_le 1 (count_of layout 0x02)))
+    && (nat_le 1 (count_of layout tables.«module») && nat_le 1 (count_of layout tables.type_def)))
 
--- all checks of the rows, and then 16 `no-assembly` at the stream of the tables
-abbrev pub content_checks : List ℕ → Root → Layout → List (Option Fault)
+-- all checks of the rows, and then that there is an assembly, at the stream of the tables
+abbrev pub content_checks : List ℕ → Root → Layout → List (Option FailedCheck)
 content_checks bytes root layout =
-    all_rows_checks bytes root layout ++ check (has_assembly bytes root layout) 16 root.tables.at ∷ []
+    all_rows_checks bytes root layout ++ check (has_assembly bytes root layout) code.NoAssembly root.tables.at ∷ []

@@ -1,7 +1,10 @@
 pub mod Cells
 pub mod Module
 pub mod Names
+pub mod Index
+pub mod Members
 pub mod Checks
 pub mod Reading
-pub mod FailedCheck
 pub mod Image
+pub mod Laws
+pub mod Texts

@@ -1,6 +1,6 @@
 -- What an image holds once it is read: the rows of its tables, with the texts and the blobs that stand in
 -- them (ECMA-335 II.22, II.24.2.3 to II.24.2.5).
-use Rattle.std.specs.Prelude.{ℕ, zero, suc, List, [], length, slice_index_or}
+use Rattle.std.specs.Prelude.{ℕ, zero, suc, Bool, ◌&&◌, nat_le, List, [], length, slice_index_or}
 
 -- what stands in a column of a row: a number, which an index of a row or into the GUID heap is too; the
 -- UTF-16 units of a string; or the bytes of a blob
@@ -29,6 +29,10 @@ abbrev pub row : Module → ℕ → ℕ → List Cell
 row m table zero = []
 row m table (suc before) = slice_index_or (rows m table) before []
 
+-- there is such a row
+abbrev pub has_row : Module → ℕ → ℕ → Bool
+has_row m table n = nat_le 1 n && nat_le n (count m table)
+
 -- what stands in a column, counted from 0, of a row; 0 where there is no such column or row
 abbrev pub cell : Module → ℕ → ℕ → ℕ → Cell
 cell m table n k = slice_index_or (row m table n) k (Number 0)
@@ -43,9 +47,17 @@ text_in (Number value) = []
 text_in (Text units) = units
 text_in (Bytes bytes) = []
 
--- the number, and the text, that stands in a column of a row
+abbrev pub blob_in : Cell → List ℕ
+blob_in (Number value) = []
+blob_in (Text units) = []
+blob_in (Bytes bytes) = bytes
+
+-- the number, the text and the blob that stands in a column of a row
 abbrev pub number : Module → ℕ → ℕ → ℕ → ℕ
 number m table n k = number_in (cell m table n k)
 
 abbrev pub text : Module → ℕ → ℕ → ℕ → List ℕ
 text m table n k = text_in (cell m table n k)
+
+abbrev pub blob : Module → ℕ → ℕ → ℕ → List ℕ
+blob m table n k = blob_in (cell m table n k)

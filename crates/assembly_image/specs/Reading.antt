@@ -2,12 +2,13 @@
 -- II.25).
 use Rattle.std.specs.Prelude.{ℕ, ◌≡◌, List, ◌++◌, map, length, nat_lt, Option, Some, None, if◌then◌else◌}
 use Rattle.std.specs.List.{range_with_len}
-use Rattle.cli_words.specs.Check.{Fault, first_fault}
+use Rattle.cli_words.specs.declared.check.FailedCheck.{FailedCheck}
+use Rattle.cli_words.specs.Check.{first_fault}
 use Rattle.cli_words.specs.declared.span.Span.{Span}
 use Rattle.pe_image.specs.Checks.{pe_checks}
 use Rattle.pe_image.specs.Reading.{pe_of}
 use Rattle.meta_heaps.specs.declared.heap.Root.{Root}
-use Rattle.meta_heaps.specs.Heaps.{cut}
+use Rattle.cli_words.specs.Span.{cut}
 use Rattle.meta_heaps.specs.Reading.{root_checks, root_of}
 use Rattle.metadata_tables.specs.declared.layout.Layout.{Layout}
 use Rattle.metadata_tables.specs.Reading.{layout_of, checks as stream_checks}
@@ -28,7 +29,7 @@ unfoldable pub tables_of : List ℕ → Layout
 tables_of bytes = layout_of bytes (heaps_of bytes).tables.at
 
 -- all checks, in their order: each speaks of places that those before it have shown to be there
-abbrev pub image_checks : List ℕ → List (Option Fault)
+abbrev pub image_checks : List ℕ → List (Option FailedCheck)
 image_checks bytes =
     pe_checks bytes
     ++ (root_checks bytes (metadata_of bytes)
@@ -51,25 +52,25 @@ pub record Reads (bytes : List ℕ) (m : Module) : Type 0 where
   pub passes : first_fault (image_checks bytes) ≡ None
   pub holds : m ≡ module_of bytes
 
--- the first check that the bytes fail has this code, and speaks of this place
-abbrev pub IsRefused : List ℕ → ℕ → ℕ → Type 0
-IsRefused bytes code at = first_fault (image_checks bytes) ≡ Some (record { code = code; at = at })
+-- this is the first check that the bytes fail
+abbrev pub IsRefused : List ℕ → FailedCheck → Type 0
+IsRefused bytes failed = first_fault (image_checks bytes) ≡ Some failed
 
 -- the reading of a file that is to be an image: there is none, it is too long, it is refused, or it is a
 -- module
 pub data FileReading : Type 0 where
   Absent : FileReading
   TooLong : FileReading
-  Refused : ℕ → ℕ → FileReading
+  Refused : FailedCheck → FileReading
   Good : Module → FileReading
 
 -- the most bytes of an image (own)
 abbrev pub image_limit : ℕ
 image_limit = 4194304
 
-abbrev pub reading_by : List ℕ → Option Fault → FileReading
+abbrev pub reading_by : List ℕ → Option FailedCheck → FileReading
 reading_by bytes None = Good (module_of bytes)
-reading_by bytes (Some fault) = Refused fault.code fault.at
+reading_by bytes (Some failed) = Refused failed
 
 -- the reading of bytes, and of a file by the bytes that it holds, if there is such a file
 abbrev pub reading_of : List ℕ → FileReading

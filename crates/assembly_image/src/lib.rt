@@ -2,16 +2,24 @@
 //! ECMA-335 II.22 to II.25.
 #![tactic(auto)]
 
-mod content;
+mod cells;
+mod checks;
 mod fault;
 mod image;
+mod index;
+mod laws;
+mod members;
 mod names;
-mod read;
+mod reading;
+mod references;
 mod strings;
+mod texts;
 
 pub use fault::ImageFault;
 pub use image::AssemblyImage;
-pub use read::read_image;
+pub use laws::{not_both, one_fault, one_module, read_or_refused};
+pub use members::Member;
+pub use reading::read_image;
 
 #[cfg(test)]
 mod tests;

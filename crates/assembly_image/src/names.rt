@@ -1,5 +1,5 @@
-//! Types and methods that are found by name.
-ghost use Rattle.std.specs.Prelude.{◌≡◌, ◌≢◌, ℕ, List, [], ◌∷◌, ◌++◌, MatchOption};
+//! The names of types, and types that are found by name.
+ghost use Rattle.std.specs.Prelude.{◌≡◌, ◌≢◌, ℕ, List, [], ◌∷◌, ◌++◌, MatchOption, IfOk};
 ghost use Rattle.std.specs.Str.{bytes_eq};
 ghost use Rattle.cli_words.specs.Text.{units_of};
 ghost use Rattle.assembly_image.specs.Module as held;
@@ -8,20 +8,8 @@ ghost use Rattle.assembly_image.specs.Reading.{module_of};
 
 use crate::image::AssemblyImage;
 use cli_words::Units;
-
-const TYPE_DEF: u8 = 0x02;
-
-const METHOD_DEF: u8 = 0x06;
-
-// The columns of a type's row: its name, its namespace, and where its methods begin.
-const TYPE_NAME: usize = 1;
-
-const TYPE_NAMESPACE: usize = 2;
-
-const METHOD_LIST: usize = 5;
-
-/// The column of a method's name.
-const METHOD_NAME: usize = 3;
+use metadata_tables::{column, table};
+use std::alloc::{AllocError, Global};
 
 /// How many enclosers a full name has at most.
 const MOST_ENCLOSERS: u32 = 16;
@@ -29,6 +17,13 @@ const MOST_ENCLOSERS: u32 = 16;
 const DOT: u16 = 0x2E;
 
 const SLASH: u16 = 0x2F;
+
+/// What has a full name: a type, or a reference to one.
+#[derive(Clone, Copy)]
+pub(crate) enum Named {
+    TypeDef,
+    TypeRef,
+}
 
 impl AssemblyImage {
     /// The first row, counted from 1, of a type of this full name: its namespace, a dot and its
@@ -46,32 +41,84 @@ impl AssemblyImage {
         None
     }
 
-    /// The first row, counted from 1 and at or after `from`, of a method of the type of a row that
-    /// has this name. Names are compared unit by unit. `None` exactly where there is no such
-    /// method, also where there is no such type. ECMA-335 II.22.26, II.22.37.
-    pub fn find_method(&self, row: u32, from: u32, name: &Units) -> Option<u32>
-        ensures { result ≡ spec.method_of_name (module_of self.now) row from name.now }
+    /// The full name of a type, with at most 16 enclosers. ECMA-335 II.22.37, II.22.32.
+    pub fn full_name(&self, alloc: Global, row: u32) -> Result<Units, AllocError>
+        ensures { IfOk result (λ name. name ≡ spec.full_name (module_of self.now) row) }
     {
-        if row == 0 || self.types() < row {
-            return None;
-        }
-        let first = self.number(TYPE_DEF, row, METHOD_LIST);
-        for n in first.max(from)..self.methods_end(row) {
-            if is_text(name.units(), self.text(METHOD_DEF, n, METHOD_NAME)) {
-                return Some(n);
-            }
-        }
-        None
+        let mut units = Vec::new(alloc);
+        self.push_name(&mut units, Named::TypeDef, MOST_ENCLOSERS, row)?;
+        Units::of(alloc, units)
     }
 
-    /// The row after the last method of a type.
-    fn methods_end(&self, row: u32) -> u32
-        ensures { result ≡ spec.after_list (module_of self.now) 0x06 row 5 }
+    /// The full name of the type that a reference names, with at most 16 of the references in which
+    /// it stands. ECMA-335 II.22.38.
+    pub fn type_ref_full_name(&self, alloc: Global, n: u32) -> Result<Units, AllocError>
+        ensures { IfOk result (λ name. name ≡ spec.type_ref_full_name (module_of self.now) n) }
     {
-        if row < self.types() {
-            self.number(TYPE_DEF, row + 1, METHOD_LIST)
-        } else {
-            self.tables.count(METHOD_DEF) + 1
+        let mut units = Vec::new(alloc);
+        self.push_name(&mut units, Named::TypeRef, MOST_ENCLOSERS, n)?;
+        Units::of(alloc, units)
+    }
+
+    /// Pushes the full name of what stands in at most so many others of its kind.
+    fn push_name(
+        &self,
+        units: &mut Vec<u16>,
+        kind: Named,
+        most: u32,
+        row: u32,
+    ) -> Result<(), AllocError>
+        ensures { IfOk result (λ _. units.new.items
+            ≡ units.old.items ++ spec.name_within (module_of self.now) kind most row) }
+    {
+        match self.outer_of(kind, row) {
+            Some(outer) if most > 0 => {
+                self.push_name(units, kind, most - 1, outer)?;
+                units.push(SLASH)?;
+                push_text(units, self.name_of(kind, row))
+            }
+            _ => self.push_qualified(units, kind, row),
+        }
+    }
+
+    /// Pushes the namespace, a dot and the name, or the name alone where the namespace is empty.
+    fn push_qualified(&self, units: &mut Vec<u16>, kind: Named, row: u32) -> Result<(), AllocError>
+        ensures { let m = module_of self.now in IfOk result (λ _. units.new.items
+            ≡ units.old.items ++ spec.qualified (spec.namespace_of m kind row) (spec.name_of m kind row)) }
+    {
+        let namespace = self.namespace_of(kind, row);
+        if namespace.is_empty() {
+            return push_text(units, self.name_of(kind, row));
+        }
+        push_text(units, namespace)?;
+        units.push(DOT)?;
+        push_text(units, self.name_of(kind, row))
+    }
+
+    fn outer_of(&self, kind: Named, row: u32) -> Option<u32>
+        ensures { result ≡ spec.outer_of (module_of self.now) kind row }
+    {
+        match kind {
+            Named::TypeDef => self.encloser(row),
+            Named::TypeRef => self.type_ref_outer(row),
+        }
+    }
+
+    fn namespace_of(&self, kind: Named, row: u32) -> &str
+        ensures { units_of result.now ≡ spec.namespace_of (module_of self.now) kind row }
+    {
+        match kind {
+            Named::TypeDef => self.text(table::TYPE_DEF, row, column::TYPE_DEF_NAMESPACE),
+            Named::TypeRef => self.text(table::TYPE_REF, row, column::TYPE_REF_NAMESPACE),
+        }
+    }
+
+    fn name_of(&self, kind: Named, row: u32) -> &str
+        ensures { units_of result.now ≡ spec.name_of (module_of self.now) kind row }
+    {
+        match kind {
+            Named::TypeDef => self.text(table::TYPE_DEF, row, column::TYPE_DEF_NAME),
+            Named::TypeRef => self.text(table::TYPE_REF, row, column::TYPE_REF_NAME),
         }
     }
 
@@ -85,7 +132,10 @@ impl AssemblyImage {
             let Some(outer) = self.encloser(row) else {
                 return self.has_qualified_name(row, units);
             };
-            let Some(before) = strip_text(units, self.text(TYPE_DEF, row, TYPE_NAME)) else {
+            let Some(before) = strip_text(
+                units,
+                self.text(table::TYPE_DEF, row, column::TYPE_DEF_NAME),
+            ) else {
                 return false;
             };
             let Some(rest) = strip_unit(before, SLASH) else {
@@ -103,22 +153,34 @@ impl AssemblyImage {
             result ≡ bytes_eq (spec.qualified (spec.type_namespace m row) (spec.type_name m row))
             units.now }
     {
-        let Some(before) = strip_text(units, self.text(TYPE_DEF, row, TYPE_NAME)) else {
+        let Some(before) = strip_text(
+            units,
+            self.text(table::TYPE_DEF, row, column::TYPE_DEF_NAME),
+        ) else {
             return false;
         };
-        let namespace = self.text(TYPE_DEF, row, TYPE_NAMESPACE);
+        let namespace = self.text(table::TYPE_DEF, row, column::TYPE_DEF_NAMESPACE);
         if namespace.is_empty() {
             return before.is_empty();
         }
         match strip_unit(before, DOT) {
-            Some(rest) => is_text(rest, namespace),
+            Some(rest) => spells(rest, namespace),
             None => false,
         }
     }
 }
 
+fn push_text(units: &mut Vec<u16>, text: &str) -> Result<(), AllocError>
+    ensures { IfOk result (λ _. units.new.items ≡ units.old.items ++ units_of text.now) }
+{
+    for character in text.chars() {
+        units.extend_from_slice(character.encode_utf16(&mut [0; 2]))?;
+    }
+    Ok(())
+}
+
 /// Whether the units are those of a text.
-fn is_text(units: &[u16], text: &str) -> bool
+pub(crate) fn spells(units: &[u16], text: &str) -> bool
     ensures { result ≡ bytes_eq (units_of text.now) units.now }
 {
     match strip_text(units, text) {

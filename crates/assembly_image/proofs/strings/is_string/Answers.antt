@@ -1,7 +1,7 @@
 use Rattle.std.proofs.Common.{◌≡◌, drop, sym, ap, ◌∙◌, arith}
 use Rattle.std.proofs.lemmas.Grind.{common_steps}
 use Rattle.std.specs.Str.{is_utf8}
-use Rattle.meta_heaps.specs.Heaps.{cut}
+use Rattle.cli_words.specs.Span.{cut}
 use Rattle.assembly_image.proofs.ZeroWithin.{near_string, far_string}
 use Rattle.assembly_image.proofs.strings.is_string.Goals as goal
 

@@ -1,6 +1,6 @@
 use Rattle.std.proofs.Common.{take, ap, ◌∙◌}
 use Rattle.std.proofs.lemmas.List.{take_min}
-use Rattle.meta_heaps.specs.Heaps.{zero_after}
+use Rattle.cli_words.specs.Span.{zero_after}
 use Rattle.assembly_image.proofs.strings.zero_within.Goals as goal
 
 pub returns-clause-zero : goal.returns-clause-zero

@@ -12,7 +12,7 @@ returns-then-has_full_name c =
     let row = c.loop-n.n + 1 in
     let sought = is_type_sought m c.args.full.now in
     let here : sought row ≡ true =
-    ap (bytes_eq (full_name m row)) (sym c.units.ensures) ∙ sym c.has_full_name.ensures
+    ap (bytes_eq (full_name m row)) (sym c.units.ensures.units) ∙ sym c.has_full_name.ensures
     ∙ c.if-has_full_name.true in
     let within = c.types-n-end.ensures in
     sym (find_first sought 1 (count m 0x02) row (omega arith) (omega arith) here c.loop-n.invariant)
@@ -23,7 +23,7 @@ loop-n-preserved c =
     let row = c.loop-n.n + 1 in
     let sought = is_type_sought m c.args.full.now in
     let here : sought row ≡ false =
-    ap (bytes_eq (full_name m row)) (sym c.units.ensures) ∙ sym c.has_full_name.ensures
+    ap (bytes_eq (full_name m row)) (sym c.units.ensures.units) ∙ sym c.has_full_name.ensures
     ∙ c.if-has_full_name.false in
     none_more sought 1 row c.loop-n.invariant here
 

@@ -1,17 +1,11 @@
 use Rattle.std.proofs.Common.{◌≡◌, ℕ, List, length, sym, ap, subst, ◌∙◌, arith}
 use Rattle.std.proofs.lemmas.Bool.Decides.{nat_tests}
-use Rattle.std.specs.Str.{bytes_eq, IsUtf8}
-use Rattle.cli_words.specs.Text.{units_of}
+use Rattle.std.specs.Str.{bytes_eq}
 use Rattle.assembly_image.specs.Names.{type_name, type_namespace}
 use Rattle.assembly_image.specs.Reading.{module_of}
-use Rattle.assembly_image.proofs.TextEnds.{empty_units}
+use Rattle.assembly_image.proofs.TextEnds.{empty_units, not_empty}
 use Rattle.assembly_image.proofs.NameLemmas.{empty_test, qualified_alone, qualified_dotted, qualified_undotted, qualified_other}
 use Rattle.assembly_image.proofs.image.AssemblyImage.has_qualified_name.Goals as goal
-
--- the text of a namespace that is not empty
-not_empty : (text namespace : List ℕ) → IsUtf8 text → units_of text ≡ namespace → ¬ (length text ≡ 0) → ¬ (length namespace ≡ 0)
-not_empty text namespace utf8 is some e =
-    some ((empty_units text utf8).1 (subst (λ (us : List ℕ). length us ≡ 0) (sym is) e))
 
 pub returns-in_default : goal.returns-in_default
 returns-in_default c =
@@ -37,7 +31,7 @@ returns-in-Some-strip_unit c =
     let text = c.text-namespace.result.now in
     let full : ¬ (length text ≡ 0) = grind (arith, nat_tests) in
     let some = not_empty text _ c.text-namespace.utf8 c.text-namespace.ensures full in
-    c.is_text.ensures
+    c.spells.ensures
     ∙ ap (λ us. bytes_eq us c.in-Some-strip_unit.rest.now) c.text-namespace.ensures
     ∙ sym (qualified_dotted (type_namespace m c.args.row) (type_name m c.args.row) c.args.units.now
     _ c.text.ensures _ c.in-Some.ensures _ some c.in-Some-strip_unit.ensures)

@@ -1,6 +1,7 @@
 use Rattle.std.proofs.Common.{sym, ap, ◌∙◌}
 use Rattle.assembly_image.specs.Cells.{holds_text}
-use Rattle.assembly_image.proofs.ImageLemmas.{column_there, column_gone, text_none, text_past, text_missing}
+use Rattle.assembly_image.proofs.ModuleLemmas.{known}
+use Rattle.assembly_image.proofs.ImageLemmas.{column_there, column_gone, is_strings, text_none, text_past, text_missing}
 use Rattle.assembly_image.proofs.image.AssemblyImage.text.Goals as goal
 
 pub returns-in_default : goal.returns-in_default
@@ -14,6 +15,10 @@ returns-then-not-holds_text c =
     text_none c.args.self.now c.args.table c.args.n c.args.k there.0
     (ap holds_text there.1 ∙ sym c.holds_text.ensures ∙ c.if-not-holds_text.true)
 
+pub has_row-requires : goal.has_row-requires
+has_row-requires c =
+    known c.args.table c.args.k (column_there c.args.table c.args.k c.in-Some.column (sym c.column.ensures ∙ c.in-Some.is)).0
+
 pub returns-then-not-has_row : goal.returns-then-not-has_row
 returns-then-not-has_row c =
     let there = column_there c.args.table c.args.k c.in-Some.column (sym c.column.ensures ∙ c.in-Some.is) in
@@ -26,4 +31,4 @@ string-requires-clause-column c =
 pub string-requires-clause-strings : goal.string-requires-clause-strings
 string-requires-clause-strings c =
     let there = column_there c.args.table c.args.k c.in-Some.column (sym c.column.ensures ∙ c.in-Some.is) in
-    ap holds_text there.1 ∙ sym c.holds_text.ensures ∙ c.if-not-holds_text.false
+    is_strings _ (ap holds_text there.1 ∙ sym c.holds_text.ensures ∙ c.if-not-holds_text.false)
