@@ -8,7 +8,7 @@ use Rattle.std.proofs.lemmas.Nat.{from_le_bytes-to_le_bytes_4}
 use Rattle.std.proofs.Math.Seq.{drop-drop, take-take, take-append-add}
 use Rattle.cli_words.specs.Number.{number_at}
 use Rattle.cli_words.specs.declared.span.Span.{Span}
-use Rattle.meta_heaps.specs.Heaps.{cut, zero_after}
+use Rattle.cli_words.specs.Span.{cut, zero_after}
 use Rattle.image_maker.specs.File.{long}
 use Rattle.image_maker.specs.Sound.{has_no_zero}
 

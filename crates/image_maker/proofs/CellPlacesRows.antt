@@ -15,7 +15,7 @@ use Rattle.metadata_tables.specs.declared.schema.Column.TheVariants.{U8}
 use Rattle.metadata_tables.specs.Columns.{columns_of}
 use Rattle.metadata_tables.specs.Layout.{column_at, count_of, len_of, row_size_of, size_of, table_at, width_of}
 use Rattle.metadata_tables.proofs.LayoutLemmas.{table_first, table_next}
-use Rattle.assembly_image.specs.Cells.{column_of}
+use Rattle.metadata_tables.specs.Columns.{column_of}
 use Rattle.image_maker.specs.declared.module.Cell.{Cell}
 use Rattle.image_maker.specs.declared.module.Cell.TheVariants.{Number}
 use Rattle.image_maker.specs.Sound.{are_rows_sound, is_row_sound}

@@ -5,15 +5,17 @@ use Rattle.std.proofs.lemmas.Bool.{and_parts, cases_lt}
 use Rattle.std.proofs.lemmas.Bool.Decides.{nat_tests}
 use Rattle.std.proofs.lemmas.List.{get_or_past}
 use Rattle.std.proofs.lemmas.List.FromFn.{length-map-range_with_len}
+use Rattle.cli_words.specs.declared.check.CheckCode.TheVariants as code
 use Rattle.cli_words.specs.Check.{check, first_fault}
 use Rattle.meta_heaps.specs.declared.heap.Root.{Root}
-use Rattle.meta_heaps.specs.Heaps.{cut, string_at}
+use Rattle.cli_words.specs.Span.{cut}
+use Rattle.meta_heaps.specs.Heaps.{string_at}
 use Rattle.metadata_tables.specs.declared.layout.Layout.{Layout}
 use Rattle.metadata_tables.specs.declared.schema.Column.{Column}
-use Rattle.metadata_tables.specs.declared.schema.Column.TheVariants.{U8, U16, U32, Strings, Guid, Blob, Table, Run, Coded}
-use Rattle.metadata_tables.specs.Columns.{columns_of}
+use Rattle.metadata_tables.specs.declared.schema.Column.TheVariants.{U8, U16, U32, Strings, Guid, Blob, Table, List as ListColumn, Coded}
+use Rattle.metadata_tables.specs.Columns.{columns_of, column_of}
 use Rattle.metadata_tables.specs.Layout.{column_at, count_of, number_of, rows_end, width_of}
-use Rattle.assembly_image.specs.Cells.{bytes_in, cell_at, cell_of, cells_of, column_of, holds_number, value_at}
+use Rattle.assembly_image.specs.Cells.{bytes_in, cell_at, cell_of, cells_of, holds_number, value_at}
 use Rattle.assembly_image.specs.Cells as cells
 use Rattle.assembly_image.specs.Checks.{all_rows_checks, column_checks, is_in_order, name_bytes, row_checks, table_checks, value_before}
 use Rattle.image_maker.specs.declared.module.Cell.{Cell}
@@ -39,14 +41,14 @@ range_map f g a (y ∷ ys) d same =
     ap (λ x. x ∷ map f (range_with_len (a + 1) (length ys))) first ∙ ap (λ xs. g y ∷ xs) rest
 
 three_pass : (a b c : Bool) (at : ℕ) → a ≡ true → b ≡ true → c ≡ true
-    → first_fault (check a 13 at ∷ check b 14 at ∷ check c 15 at ∷ []) ≡ None
-three_pass a b c at x y z = pass a 13 at _ x (pass b 14 at _ y (pass c 15 at [] z refl))
+    → first_fault (check a code.Index at ∷ check b code.List at ∷ check c code.Text at ∷ []) ≡ None
+three_pass a b c at x y z = pass a code.Index at _ x (pass b code.List at _ y (pass c code.Text at [] z refl))
 
 -- what stands in the row before matters in a column of lists alone
-ordered_same : (layout : Layout) (column : Column) (a b value : ℕ) → ((table : ℕ) → column ≡ Run table → a ≡ b)
+ordered_same : (layout : Layout) (column : Column) (a b value : ℕ) → ((table : ℕ) → column ≡ ListColumn table → a ≡ b)
     → is_in_order layout column a value ≡ is_in_order layout column b value
-ordered_same layout (Run table) a b value same =
-    ap (λ x. is_in_order layout (Run table) x value) (same table refl)
+ordered_same layout (ListColumn table) a b value same =
+    ap (λ x. is_in_order layout (ListColumn table) x value) (same table refl)
 ordered_same layout U8 a b value same = refl
 ordered_same layout U16 a b value same = refl
 ordered_same layout U32 a b value same = refl
@@ -85,7 +87,7 @@ module _ (bytes : List ℕ) (root : Root) (layout : Layout) (rows : ℕ → List
 
   -- what stands in the row before, in a column of lists
   before_is : (t i k : ℕ) → t < end → i < length (rows t) → k < length (columns_of t)
-      → (table : ℕ) → column_of t k ≡ Run table → value_before bytes layout t (i + 1) k ≡ above t i k
+      → (table : ℕ) → column_of t k ≡ ListColumn table → value_before bytes layout t (i + 1) k ≡ above t i k
   before_is t zero k known row column table e = refl
   before_is t (suc j) k known row column table e =
       let earlier : j < length (rows t) = omega arith in

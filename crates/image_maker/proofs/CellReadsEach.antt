@@ -9,10 +9,11 @@ use Rattle.std.proofs.lemmas.List.Folds.{list_all-append}
 use Rattle.std.proofs.Math.Seq.{drop-append_seam, drop-drop}
 use Rattle.cli_words.specs.declared.span.Span.{Span}
 use Rattle.meta_heaps.specs.declared.heap.Root.{Root}
-use Rattle.meta_heaps.specs.Heaps.{cut, string_at, blob_at}
+use Rattle.cli_words.specs.Span.{cut}
+use Rattle.meta_heaps.specs.Heaps.{string_at, blob_at}
 use Rattle.metadata_tables.specs.declared.layout.Layout.{Layout}
 use Rattle.metadata_tables.specs.declared.schema.Column.{Column}
-use Rattle.metadata_tables.specs.declared.schema.Column.TheVariants.{U8, U16, U32, Strings, Guid, Blob, Table, Run, Coded}
+use Rattle.metadata_tables.specs.declared.schema.Column.TheVariants.{U8, U16, U32, Strings, Guid, Blob, Table, List as ListColumn, Coded}
 use Rattle.metadata_tables.specs.Layout.{count_of, number_of, width_of}
 use Rattle.assembly_image.specs.Cells.{bytes_in, cell_of, holds_number}
 use Rattle.assembly_image.specs.Checks.{is_inside, is_in_order, is_string, is_text}
@@ -82,7 +83,7 @@ module _ (before after : Cells) (column : Column) where
       )
 
 -- a column of lists has a number
-list_value : {column : Column} {cell : Cell} → Kind column cell → (table : ℕ) (before : Cells) → column ≡ Run table
+list_value : {column : Column} {cell : Cell} → Kind column cell → (table : ℕ) (before : Cells) → column ≡ ListColumn table
     → value_after before cell ≡ number_in cell
 list_value (of_number holds small) table before e = refl
 list_value of_text table before e = absurd (cc)
@@ -111,7 +112,7 @@ module _ (bytes : List ℕ) (root : Root) (layout : Layout) where
       record { reads = refl; inside = (and_parts _ _ sound).0; ordered = refl; as_text = refl }
   number_good (Table table) earlier value e sound =
       record { reads = refl; inside = (and_parts _ _ sound).0; ordered = refl; as_text = refl }
-  number_good (Run table) earlier value e sound =
+  number_good (ListColumn table) earlier value e sound =
       record { reads = refl; inside = refl; ordered = (and_parts true _ sound).1; as_text = refl }
   number_good (Coded index) earlier value e sound =
       record { reads = refl; inside = (and_parts _ _ sound).0; ordered = refl; as_text = refl }
@@ -273,5 +274,5 @@ module _ (bytes : List ℕ) (root : Root) (layout : Layout) where
           (fine (kind_of column cell cell_kept) at earlier s cell_kept sound).1
 
       -- in a column of lists
-      pub list_at : (table : ℕ) → column ≡ Run table → number_of (width_of layout column) bytes at ≡ number_in cell
+      pub list_at : (table : ℕ) → column ≡ ListColumn table → number_of (width_of layout column) bytes at ≡ number_in cell
       list_at table e = read_at ∙ list_value (kind_of column cell cell_kept) table s.before e

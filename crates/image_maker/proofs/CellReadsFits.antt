@@ -8,7 +8,7 @@ use Rattle.std.proofs.Math.Nat.{div-lt_iff_lt-mul}
 use Rattle.metadata_tables.specs.declared.layout.Layout.{Layout}
 use Rattle.metadata_tables.specs.declared.layout.Width.TheVariants.{Four}
 use Rattle.metadata_tables.specs.declared.schema.Column.{Column}
-use Rattle.metadata_tables.specs.declared.schema.Column.TheVariants.{U8, U16, U32, Strings, Guid, Blob, Table, Run, Coded}
+use Rattle.metadata_tables.specs.declared.schema.Column.TheVariants.{U8, U16, U32, Strings, Guid, Blob, Table, List as ListColumn, Coded}
 use Rattle.metadata_tables.specs.declared.schema.CodedIndex.{CodedIndex}
 use Rattle.metadata_tables.specs.declared.schema.CodedIndex.TheVariants.{TypeDefOrRef, HasConstant, HasCustomAttribute, HasFieldMarshal, HasDeclSecurity, MemberRefParent, HasSemantics, MethodDefOrRef, MemberForwarded, Implementation, CustomAttributeType, ResolutionScope, TypeOrMethodDef}
 use Rattle.metadata_tables.specs.Columns.{first_tag_of, table_of, tables_of, tag_bits_of, target_of}
@@ -33,7 +33,7 @@ kind_of U16 (Number value) e = let h = ltb-true value (2 ^ 16) e in of_number re
 kind_of U32 (Number value) e = of_number refl (ltb-true value (2 ^ 32) e)
 kind_of Guid (Number value) e = of_number refl (ltb-true value (2 ^ 32) e)
 kind_of (Table table) (Number value) e = of_number refl (ltb-true value (2 ^ 32) e)
-kind_of (Run table) (Number value) e = of_number refl (ltb-true value (2 ^ 32) e)
+kind_of (ListColumn table) (Number value) e = of_number refl (ltb-true value (2 ^ 32) e)
 kind_of (Coded index) (Number value) e = of_number refl (ltb-true value (2 ^ 32) e)
 kind_of Strings (Text bytes) e = of_text
 kind_of Blob (Bytes bytes) e = of_blob
@@ -118,9 +118,9 @@ module _ (layout : Layout) where
       (λ e. let last = leb-true value (count_of layout table) (and_parts _ _ sound).0 in
       let all = few table in
       omega arith) (ltb-true value (2 ^ 32) kept)
-  fits_width guids before value (Run table) heaps few kept sound =
+  fits_width guids before value (ListColumn table) heaps few kept sound =
       index_below (is_narrow layout 0 table) value
-      (λ e. let order = (and_parts (is_inside [] (heaps_with guids) layout (Run table) value) _ sound).1 in
+      (λ e. let order = (and_parts (is_inside [] (heaps_with guids) layout (ListColumn table) value) _ sound).1 in
       let rest = (and_parts (nat_le 1 value) _ order).1 in
       let last = leb-true value (count_of layout table + 1) (and_parts _ _ rest).0 in
       let all = few table in

@@ -6,7 +6,8 @@ use Rattle.std.proofs.lemmas.Bool.Decides.{nat_tests}
 use Rattle.std.proofs.Math.Seq.{drop-drop, drop-append_seam, take-append_seam}
 use Rattle.cli_words.specs.declared.span.Span.{Span}
 use Rattle.cli_words.specs.Compressed.{number_at_front}
-use Rattle.meta_heaps.specs.Heaps.{cut, zero_after, string_at, blob_at, counted, entry_at}
+use Rattle.cli_words.specs.Span.{cut, zero_after}
+use Rattle.meta_heaps.specs.Heaps.{string_at, blob_at, counted, entry_at}
 use Rattle.image_maker.specs.Sound.{has_no_zero}
 use Rattle.image_maker.specs.Written.{compressed}
 use Rattle.image_maker.proofs.BytesRead.{cut_within, zero_found}

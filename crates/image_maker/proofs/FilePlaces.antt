@@ -6,7 +6,7 @@ use Rattle.cli_words.specs.Check.{first_fault}
 use Rattle.pe_image.specs.Section as section
 use Rattle.pe_image.specs.Checks.{pe_checks}
 use Rattle.pe_image.specs.Reading.{pe_of}
-use Rattle.meta_heaps.specs.Heaps.{LiesIn, cut}
+use Rattle.cli_words.specs.Span.{LiesIn, cut}
 use Rattle.assembly_image.specs.Reading.{metadata_of}
 use Rattle.image_maker.specs.File.{file_bytes, file_headers, cli_header, text_bytes, bodies_address, padded, zeros, round_up}
 use Rattle.image_maker.specs.Made.{HasSections}

@@ -2,6 +2,7 @@
 use Rattle.std.proofs.Common.{◌≡◌, ℕ, ◌+◌, ◌-◌, ◌≤◌, true, List, ◌++◌, length, drop, Some, None, nat_le, ◌==◌, ◌||◌, is_some, bit_and, not, ap₂, refl, sym, ap, ◌∙◌, arith, le-leb}
 use Rattle.std.specs.Int.{w32, from_le_bytes}
 use Rattle.std.proofs.lemmas.List.{drop-drop}
+use Rattle.cli_words.specs.declared.check.CheckCode.TheVariants as code
 use Rattle.cli_words.specs.Check.{first_fault}
 use Rattle.cli_words.specs.Number.{number_at}
 use Rattle.cli_words.proofs.FirstFault.{first_fault-none}
@@ -50,11 +51,11 @@ module _ (text : ℕ) (bytes : List ℕ) (h : HasHeaders text bytes)
   header_pass : first_fault (header_checks bytes) ≡ None
   unfolding header_checks
   header_pass = rw signature_is (
-      pass _ 1 _ _ (le-leb 2 (length bytes) (omega arith))
-      (pass _ 2 _ _ h.begins
-      (pass _ 1 _ _ (le-leb 0x40 (length bytes) (omega arith))
-      (pass _ 1 _ _ (le-leb (0x80 + 24) (length bytes) (omega arith))
-      (pass _ 3 _ _ h.signed refl)))))
+      pass _ code.Cut _ _ (le-leb 2 (length bytes) (omega arith))
+      (pass _ code.NoMz _ _ h.begins
+      (pass _ code.Cut _ _ (le-leb 0x40 (length bytes) (omega arith))
+      (pass _ code.Cut _ _ (le-leb (0x80 + 24) (length bytes) (omega arith))
+      (pass _ code.NoPe _ _ h.signed refl)))))
 
   optional_length_is : layout.optional_length bytes 0x80 ≡ 216
   optional_length_is = rw magic_is refl
@@ -67,12 +68,12 @@ module _ (text : ℕ) (bytes : List ℕ) (h : HasHeaders text bytes)
   optional_pass =
       let goes = λ (n : ℕ). nat_le (152 + n) (length bytes) in
       let there = λ (at : ℕ). not (number_at w32 bytes at == 0) in
-      pass _ 1 _ _ (le-leb 154 (length bytes) (omega arith))
-      (pass _ 4 _ _ (ap (λ form. (form == 0x10B) || (form == 0x20B)) magic_is)
-      (pass _ 5 _ _ (ap₂ nat_le optional_length_is h.optional_size)
-      (pass _ 1 _ _ (ap goes optional_length_is ∙ le-leb 368 (length bytes) (omega arith))
-      (pass _ 5 _ _ (ap (λ at. nat_le 15 (number_at w32 bytes at)) directory_count_is ∙ ap (nat_le 15) h.directories)
-      (pass _ 5 _ _ (ap there directory_is ∙ ap (λ rva. not (rva == 0)) h.directory) refl)))))
+      pass _ code.Cut _ _ (le-leb 154 (length bytes) (omega arith))
+      (pass _ code.Magic _ _ (ap (λ form. (form == 0x10B) || (form == 0x20B)) magic_is)
+      (pass _ code.NoCli _ _ (ap₂ nat_le optional_length_is h.optional_size)
+      (pass _ code.Cut _ _ (ap goes optional_length_is ∙ le-leb 368 (length bytes) (omega arith))
+      (pass _ code.NoCli _ _ (ap (λ at. nat_le 15 (number_at w32 bytes at)) directory_count_is ∙ ap (nat_le 15) h.directories)
+      (pass _ code.NoCli _ _ (ap there directory_is ∙ ap (λ rva. not (rva == 0)) h.directory) refl)))))
 
   -- the CLI header at the beginning of the section of code
   module _ (rva len : ℕ) (c : HasCliHeader (drop 0x200 bytes) rva len) (above : 72 ≤ text) (from : 0x2000 ≤ rva)
@@ -97,16 +98,16 @@ module _ (text : ℕ) (bytes : List ℕ) (h : HasHeaders text bytes)
     cli_pass : first_fault (cli_checks bytes 376 3 360) ≡ None
     unfolding cli_checks
     cli_pass =
-        pass _ 1 _ _ (le-leb 496 (length bytes) (omega arith))
-        (pass _ 6 _ _ (ap is_some cli_header_is) refl)
+        pass _ code.Cut _ _ (le-leb 496 (length bytes) (omega arith))
+        (pass _ code.Outside _ _ (ap is_some cli_header_is) refl)
 
     metadata_pass : first_fault (metadata_checks bytes 376 3 0x200) ≡ None
     unfolding metadata_checks
     metadata_pass =
         let flags : number_at w32 bytes (0x200 + 16) ≡ 1 = moved 16 ∙ c.flags in
-        pass _ 1 _ _ (le-leb 536 (length bytes) (omega arith))
-        (pass _ 7 _ _ (ap (λ flags. bit_and flags 1 == 1) flags)
-        (pass _ 6 _ _ (ap is_some metadata_is) refl))
+        pass _ code.Cut _ _ (le-leb 536 (length bytes) (omega arith))
+        (pass _ code.NotIlOnly _ _ (ap (λ flags. bit_and flags 1 == 1) flags)
+        (pass _ code.Outside _ _ (ap is_some metadata_is) refl))
 
     stages : first_fault (header_checks bytes ++ (optional_checks bytes 0x80
         ++ (cli_checks bytes 376 3 360 ++ metadata_checks bytes 376 3 0x200))) ≡ None

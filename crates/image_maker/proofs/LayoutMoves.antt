@@ -4,10 +4,10 @@ use Rattle.std.specs.Prelude.{nat_le, slice_index}
 use Rattle.std.specs.List.{list_all, range_with_len}
 use Rattle.metadata_tables.specs.declared.layout.Layout.{Layout}
 use Rattle.metadata_tables.specs.declared.schema.Column.{Column}
-use Rattle.metadata_tables.specs.declared.schema.Column.TheVariants.{U8, U16, U32, Strings, Guid, Blob, Table, Run, Coded}
+use Rattle.metadata_tables.specs.declared.schema.Column.TheVariants.{U8, U16, U32, Strings, Guid, Blob, Table, List as ListColumn, Coded}
 use Rattle.metadata_tables.specs.Columns.{columns_of, target_of}
 use Rattle.metadata_tables.specs.Layout.{width_of}
-use Rattle.assembly_image.specs.Cells.{column_of}
+use Rattle.metadata_tables.specs.Columns.{column_of}
 use Rattle.assembly_image.specs.Checks.{is_inside, is_in_order, has_target}
 use Rattle.image_maker.specs.declared.module.Module.{Module}
 use Rattle.image_maker.specs.declared.module.Cell.{Cell}
@@ -30,7 +30,7 @@ module _ (a b : Layout) (guids : ℕ) (same : a.counts ≡ b.counts) where
   same_inside Guid value = refl
   same_inside Blob value = refl
   same_inside (Table table) value = ap (λ counts. nat_le value (slice_index counts table)) same
-  same_inside (Run table) value = refl
+  same_inside (ListColumn table) value = refl
   same_inside (Coded index) value = same_target (target_of index value)
 
   same_order : (column : Column) (before value : ℕ)
@@ -42,7 +42,7 @@ module _ (a b : Layout) (guids : ℕ) (same : a.counts ≡ b.counts) where
   same_order Guid before value = refl
   same_order Blob before value = refl
   same_order (Table table) before value = refl
-  same_order (Run table) before value = ap
+  same_order (ListColumn table) before value = ap
       (λ counts. nat_le 1 value && (nat_le value (slice_index counts table + 1) && nat_le before value)) same
   same_order (Coded index) before value = refl
 
@@ -80,7 +80,7 @@ same_width m a b Strings = refl
 same_width m a b Guid = refl
 same_width m a b Blob = refl
 same_width m a b (Table table) = refl
-same_width m a b (Run table) = refl
+same_width m a b (ListColumn table) = refl
 same_width m a b (Coded index) = refl
 
 same_rows_after : (m : Module) (a b : ℕ) (before cells : Cells)

@@ -12,7 +12,7 @@ use Rattle.image_maker.specs.File.{Stream, padded, root_bytes, known_parts, tabl
 use Rattle.image_maker.specs.Sound.{count, all_texts, is_sound, is_stream_name, layout_at}
 use Rattle.image_maker.specs.Size.{all_blobs, row_count, body_size, size_of, limit_of}
 use Rattle.image_maker.proofs.LengthHeaps.{cell_len, row_part, written-le, cells-le}
-use Rattle.image_maker.proofs.LengthRows.{texts_len, blobs_len, rows-le}
+use Rattle.image_maker.proofs.LengthRows.{texts_len, blobs_len, rows-le, counts-le}
 use Rattle.image_maker.proofs.LengthFile.{streams_len, up512-le, up512-ge, padded-le, bodies-le, streams-le, root_length, tables-le, file_length}
 use Rattle.image_maker.proofs.SoundParts.{limit_parts, sound_parts}
 use Rattle.image_maker.proofs.RowCounts.{same_count}
@@ -51,7 +51,12 @@ pub heaps-le : (m : Module) (rva : ℕ → ℕ) (layout : Layout) → limit_of m
     + length (blobs_of (cells_below (rows_of m rva) 45))
     ≤ 40 * row_count m + sum_by (λ text. length text + 1) (all_texts m)
     + sum_by (λ blob. length blob + 4) (all_blobs m) + 1100
-heaps-le m rva layout limit = heaps-le-to m rva layout 45 (name_short m limit)
+heaps-le m rva layout limit =
+    fewer _ _ _ _ _ (heaps-le-to m rva layout 45 (name_short m limit)) (counts-le m)
+  where
+    fewer : (a counts count texts blobs : ℕ) → a ≤ 40 * counts + texts + blobs + 1100 → counts ≤ count
+        → a ≤ 40 * count + texts + blobs + 1100
+    fewer a counts count texts blobs h few = omega arith
 
 -- those that are written
 pub written_heaps-le : (m : Module) (layout : Layout) → limit_of m ≡ None

@@ -1,9 +1,10 @@
 -- What the rows of a module add to the heaps is bounded by the lengths of its texts and its blobs.
-use Rattle.std.proofs.Common.{◌≡◌, ℕ, ◌+◌, ◌≤◌, ◌==◌, Bool, true, false, List, [], ◌∷◌, ◌++◌, map, length, sym, subst, ◌∙◌, arith, inl, inr, if◌then◌else◌, le_of_eq, le_trans, subst₂}
+use Rattle.std.proofs.Common.{◌≡◌, ℕ, ◌+◌, ◌≤◌, ◌==◌, Bool, true, false, List, [], ◌∷◌, ◌++◌, map, length, refl, sym, subst, ◌∙◌, arith, inl, inr, if◌then◌else◌, le_of_eq, le_trans, subst₂}
 use Rattle.std.specs.List.{flat_map, filter, range_with_len, sum_by}
 use Rattle.std.proofs.lemmas.Bool.{cases_eq}
 use Rattle.std.proofs.lemmas.Bool.Decides.{nat_tests}
 use Rattle.std.proofs.lemmas.List.Sums.{sum_by-cons, sum_by-append, sum_by-le-sum_by}
+use Rattle.std.proofs.lemmas.List.{length-map}
 use Rattle.cli_words.specs.Text.{bytes_of}
 use Rattle.assembly_name.specs.declared.version.AssemblyRef.{AssemblyRef}
 use Rattle.image_maker.specs.declared.module.Module.{Module}
@@ -15,9 +16,10 @@ use Rattle.image_maker.specs.declared.module.MemberRow.{MemberRow}
 use Rattle.image_maker.specs.declared.module.Cell.{Cell}
 use Rattle.image_maker.specs.declared.module.Cell.TheVariants.{Number, Text, Bytes}
 use Rattle.image_maker.specs.Rows.{module_row, type_ref_row, type_row, type_rows, field_row, method_row, method_rows, member_row, spec_row, assembly_row, reference_row, all_fields, all_methods, given_rows, rows_of}
-use Rattle.image_maker.specs.Sound.{texts_in, all_texts}
-use Rattle.image_maker.specs.Size.{blobs_in, all_blobs}
+use Rattle.image_maker.specs.Sound.{count, texts_in, all_texts}
+use Rattle.image_maker.specs.Size.{blobs_in, all_blobs, row_count}
 use Rattle.image_maker.proofs.ListSums.{sum_by-flat_map, sum_by-map, sum_by-add, if_at, at_this, once, of_number, parts-le}
+use Rattle.image_maker.proofs.RowCounts.{length_types, length_methods}
 use Rattle.image_maker.proofs.LengthHeaps.{heap_part, row_part, text_part, bytes_part}
 
 -- what the rows of texts, and of blobs, count for
@@ -135,77 +137,85 @@ given-le rows =
     let apart = sum_by-add (λ r. texts_len (texts_in r.1)) (λ r. blobs_len (blobs_in r.1)) rows in
     omega arith
 
--- the rows of a table, table by table: those of a module and those that are given
-step-le : (t n : ℕ) (xs ys : List (List Cell)) (most : ℕ) → sum_by row_part ys ≤ most
-    → sum_by row_part (if t == n then xs else ys) ≤ if_at n (sum_by row_part xs) t + most
-step-le t n xs ys most rest =
-    let most_of : Bool → Type 0 =
-    λ b. sum_by row_part (if b then xs else ys) ≤ if_at n (sum_by row_part xs) t + most in
-    elim (cases_eq t n) [
-      | inl here ↦
-          let value = at_this n (sum_by row_part xs) t (sym here) in
-          let test : (t == n) ≡ true = grind (arith, nat_tests) in
-          subst most_of (sym test) (omega arith)
-      | inr elsewhere ↦
-          let test : (t == n) ≡ false = grind (arith, nat_tests) in
-          subst most_of (sym test) (omega arith)
-    ]
+-- what each row of a table adds, table by table: of those of a module, and of those that are given
+module _ (part : List Cell → ℕ) where
+  step-le : (t n : ℕ) (xs ys : List (List Cell)) (most : ℕ) → sum_by part ys ≤ most
+      → sum_by part (if t == n then xs else ys) ≤ if_at n (sum_by part xs) t + most
+  step-le t n xs ys most rest =
+      let most_of : Bool → Type 0 =
+      λ b. sum_by part (if b then xs else ys) ≤ if_at n (sum_by part xs) t + most in
+      elim (cases_eq t n) [
+        | inl here ↦
+            let value = at_this n (sum_by part xs) t (sym here) in
+            let test : (t == n) ≡ true = grind (arith, nat_tests) in
+            subst most_of (sym test) (omega arith)
+        | inr elsewhere ↦
+            let test : (t == n) ≡ false = grind (arith, nat_tests) in
+            subst most_of (sym test) (omega arith)
+      ]
 
--- what a table adds at most
-abbrev table_part : Module → (ℕ → ℕ) → ℕ → ℕ
-table_part m rva t =
-    if_at 0x00 (sum_by row_part (module_row m ∷ [])) t
-    + (if_at 0x01 (sum_by row_part (map type_ref_row m.type_refs)) t
-    + (if_at 0x02 (sum_by row_part (type_rows 1 1 m.types)) t
-    + (if_at 0x04 (sum_by row_part (map field_row (all_fields m))) t
-    + (if_at 0x06 (sum_by row_part (method_rows rva 1 1 (all_methods m))) t
-    + (if_at 0x0A (sum_by row_part (map member_row m.members)) t
-    + (if_at 0x1B (sum_by row_part (map spec_row m.specs)) t
-    + (if_at 0x20 (sum_by row_part (assembly_row m ∷ [])) t
-    + (if_at 0x23 (sum_by row_part (map reference_row m.refs)) t
-    + of_number (λ r. row_part r.1) m.rows t))))))))
+  -- what a table adds at most
+  abbrev table_part : Module → (ℕ → ℕ) → ℕ → ℕ
+  table_part m rva t =
+      if_at 0x00 (sum_by part (module_row m ∷ [])) t
+      + (if_at 0x01 (sum_by part (map type_ref_row m.type_refs)) t
+      + (if_at 0x02 (sum_by part (type_rows 1 1 m.types)) t
+      + (if_at 0x04 (sum_by part (map field_row (all_fields m))) t
+      + (if_at 0x06 (sum_by part (method_rows rva 1 1 (all_methods m))) t
+      + (if_at 0x0A (sum_by part (map member_row m.members)) t
+      + (if_at 0x1B (sum_by part (map spec_row m.specs)) t
+      + (if_at 0x20 (sum_by part (assembly_row m ∷ [])) t
+      + (if_at 0x23 (sum_by part (map reference_row m.refs)) t
+      + of_number (λ r. part r.1) m.rows t))))))))
 
-table-le : (m : Module) (rva : ℕ → ℕ) (t : ℕ) → sum_by row_part (rows_of m rva t) ≤ table_part m rva t
-table-le m rva t =
-    step-le t 0x00 (module_row m ∷ []) _ _
-    (step-le t 0x01 (map type_ref_row m.type_refs) _ _
-    (step-le t 0x02 (type_rows 1 1 m.types) _ _
-    (step-le t 0x04 (map field_row (all_fields m)) _ _
-    (step-le t 0x06 (method_rows rva 1 1 (all_methods m)) _ _
-    (step-le t 0x0A (map member_row m.members) _ _
-    (step-le t 0x1B (map spec_row m.specs) _ _
-    (step-le t 0x20 (assembly_row m ∷ []) _ _
-    (step-le t 0x23 (map reference_row m.refs) (given_rows t m.rows) (of_number (λ r. row_part r.1) m.rows t)
-    (le_of_eq (sum_by-map row_part (λ r. r.1) (filter (λ r. r.0 == t) m.rows)))))))))))
+  table-le : (m : Module) (rva : ℕ → ℕ) (t : ℕ) → sum_by part (rows_of m rva t) ≤ table_part m rva t
+  table-le m rva t =
+      step-le t 0x00 (module_row m ∷ []) _ _
+      (step-le t 0x01 (map type_ref_row m.type_refs) _ _
+      (step-le t 0x02 (type_rows 1 1 m.types) _ _
+      (step-le t 0x04 (map field_row (all_fields m)) _ _
+      (step-le t 0x06 (method_rows rva 1 1 (all_methods m)) _ _
+      (step-le t 0x0A (map member_row m.members) _ _
+      (step-le t 0x1B (map spec_row m.specs) _ _
+      (step-le t 0x20 (assembly_row m ∷ []) _ _
+      (step-le t 0x23 (map reference_row m.refs) (given_rows t m.rows) (of_number (λ r. part r.1) m.rows t)
+      (le_of_eq (sum_by-map part (λ r. r.1) (filter (λ r. r.0 == t) m.rows)))))))))))
 
--- and all tables together
-add-le : (len n v : ℕ) (rest : ℕ → ℕ) (most : ℕ) → sum_by rest (range_with_len 0 len) ≤ most
-    → sum_by (λ t. if_at n v t + rest t) (range_with_len 0 len) ≤ v + most
-add-le len n v rest most h =
-    let apart = sum_by-add (if_at n v) rest (range_with_len 0 len) in
-    let one = once n v 0 len in
-    omega arith
+  -- and all tables together
+  add-le : (len n v : ℕ) (rest : ℕ → ℕ) (most : ℕ) → sum_by rest (range_with_len 0 len) ≤ most
+      → sum_by (λ t. if_at n v t + rest t) (range_with_len 0 len) ≤ v + most
+  add-le len n v rest most h =
+      let apart = sum_by-add (if_at n v) rest (range_with_len 0 len) in
+      let one = once n v 0 len in
+      omega arith
 
--- what the tables add at most
-abbrev all_parts : Module → (ℕ → ℕ) → ℕ
-all_parts m rva =
-    sum_by row_part (module_row m ∷ [])
-    + (sum_by row_part (map type_ref_row m.type_refs)
-    + (sum_by row_part (type_rows 1 1 m.types)
-    + (sum_by row_part (map field_row (all_fields m))
-    + (sum_by row_part (method_rows rva 1 1 (all_methods m))
-    + (sum_by row_part (map member_row m.members)
-    + (sum_by row_part (map spec_row m.specs)
-    + (sum_by row_part (assembly_row m ∷ [])
-    + (sum_by row_part (map reference_row m.refs)
-    + sum_by (λ r. row_part r.1) m.rows))))))))
+  -- what the tables add at most
+  abbrev all_parts : Module → (ℕ → ℕ) → ℕ
+  all_parts m rva =
+      sum_by part (module_row m ∷ [])
+      + (sum_by part (map type_ref_row m.type_refs)
+      + (sum_by part (type_rows 1 1 m.types)
+      + (sum_by part (map field_row (all_fields m))
+      + (sum_by part (method_rows rva 1 1 (all_methods m))
+      + (sum_by part (map member_row m.members)
+      + (sum_by part (map spec_row m.specs)
+      + (sum_by part (assembly_row m ∷ [])
+      + (sum_by part (map reference_row m.refs)
+      + sum_by (λ r. part r.1) m.rows))))))))
 
-tables-le : (m : Module) (rva : ℕ → ℕ) (len : ℕ)
-    → sum_by (table_part m rva) (range_with_len 0 len) ≤ all_parts m rva
-tables-le m rva len =
-    add-le len _ _ _ _ (add-le len _ _ _ _ (add-le len _ _ _ _ (add-le len _ _ _ _ (add-le len _ _ _ _
-    (add-le len _ _ _ _ (add-le len _ _ _ _ (add-le len _ _ _ _ (add-le len _ _ _ _
-    (parts-le (λ r. row_part r.1) m.rows 0 len)))))))))
+  tables-le : (m : Module) (rva : ℕ → ℕ) (len : ℕ)
+      → sum_by (table_part m rva) (range_with_len 0 len) ≤ all_parts m rva
+  tables-le m rva len =
+      add-le len _ _ _ _ (add-le len _ _ _ _ (add-le len _ _ _ _ (add-le len _ _ _ _ (add-le len _ _ _ _
+      (add-le len _ _ _ _ (add-le len _ _ _ _ (add-le len _ _ _ _ (add-le len _ _ _ _
+      (parts-le (λ r. part r.1) m.rows 0 len)))))))))
+
+  -- the rows of the tables below one
+  own-le : (m : Module) (rva : ℕ → ℕ) (end : ℕ)
+      → sum_by (λ table. sum_by part (rows_of m rva table)) (range_with_len 0 end) ≤ all_parts m rva
+  own-le m rva end =
+      le_trans (sum_by-le-sum_by (λ table. sum_by part (rows_of m rva table)) (table_part m rva)
+      (range_with_len 0 end) (table-le m rva)) (tables-le m rva end)
 
 module _ {X : Type 0} (f : X → ℕ) where
   five : (a b c d e : List X) → sum_by f (a ++ (b ++ (c ++ (d ++ e))))
@@ -251,7 +261,7 @@ blobs_split m =
     (map (λ r. r.sig) m.members) m.specs (flat_map (λ r. blobs_in r.1) m.rows)
 
 -- a module's name stands in two rows
-parts-le-lens : (m : Module) (rva : ℕ → ℕ) → all_parts m rva
+parts-le-lens : (m : Module) (rva : ℕ → ℕ) → all_parts row_part m rva
     ≤ length m.name + 1 + texts_len (all_texts m) + blobs_len (all_blobs m)
 parts-le-lens m rva =
     let name = text_part m.name in
@@ -263,14 +273,39 @@ parts-le-lens m rva =
     let members = members-le m.members in
     let specs = specs-le m.specs in
     let given = given-le m.rows in
-    subst₂ (λ t b. all_parts m rva ≤ length m.name + 1 + t + b) (sym (texts_split m)) (sym (blobs_split m))
+    subst₂ (λ t b. all_parts row_part m rva ≤ length m.name + 1 + t + b) (sym (texts_split m)) (sym (blobs_split m))
     (omega arith)
 
 -- what the rows of a module's tables below one add to the heaps
 pub rows-le : (m : Module) (rva : ℕ → ℕ) (end : ℕ)
     → sum_by (λ table. sum_by row_part (rows_of m rva table)) (range_with_len 0 end)
     ≤ length m.name + 1 + texts_len (all_texts m) + blobs_len (all_blobs m)
-rows-le m rva end =
-    le_trans (sum_by-le-sum_by (λ table. sum_by row_part (rows_of m rva table)) (table_part m rva)
-    (range_with_len 0 end) (table-le m rva))
-    (le_trans (tables-le m rva end) (parts-le-lens m rva))
+rows-le m rva end = le_trans (own-le row_part m rva end) (parts-le-lens m rva)
+
+-- each row counts for one
+module _ {X : Type 0} where
+  abbrev one : X → ℕ
+  one x = 1
+
+  ones : (xs : List X) → sum_by one xs ≡ length xs
+  ones [] = refl
+  ones (x ∷ xs) =
+      let more = sum_by-cons one x xs in
+      let rest = ones xs in
+      omega arith
+
+pub counts-le : (m : Module) → sum_by (count m) (range_with_len 0 45) ≤ row_count m
+counts-le m =
+    let rva : ℕ → ℕ = λ n. 0 in
+    let given = ones m.rows in
+    let each = sum_by-le-sum_by (count m) (λ table. sum_by one (rows_of m rva table)) (range_with_len 0 45)
+    (λ table. le_of_eq (sym (ones (rows_of m rva table)))) in
+    let own = own-le one m rva 45 in
+    let type_refs = ones (map type_ref_row m.type_refs) ∙ length-map m.type_refs type_ref_row in
+    let types = ones (type_rows 1 1 m.types) ∙ length_types 1 1 m.types in
+    let fields = ones (map field_row (all_fields m)) ∙ length-map (all_fields m) field_row in
+    let methods = ones (method_rows rva 1 1 (all_methods m)) ∙ length_methods rva 1 1 (all_methods m) in
+    let members = ones (map member_row m.members) ∙ length-map m.members member_row in
+    let specs = ones (map spec_row m.specs) ∙ length-map m.specs spec_row in
+    let refs = ones (map reference_row m.refs) ∙ length-map m.refs reference_row in
+    le_trans each (le_trans own (omega arith))

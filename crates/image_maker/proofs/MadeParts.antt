@@ -8,7 +8,7 @@ use Rattle.pe_image.specs.Section.{span_of}
 use Rattle.pe_image.specs.Checks.{pe_checks}
 use Rattle.pe_image.specs.Reading.{pe_of}
 use Rattle.meta_heaps.specs.declared.heap.Root.{Root}
-use Rattle.meta_heaps.specs.Heaps.{LiesIn, cut}
+use Rattle.cli_words.specs.Span.{LiesIn, cut}
 use Rattle.meta_heaps.specs.Reading.{root_checks, root_of}
 use Rattle.metadata_tables.specs.declared.layout.Layout.{Layout}
 use Rattle.metadata_tables.specs.Layout.{rows_end}
@@ -20,12 +20,12 @@ use Rattle.image_maker.specs.Sound.{count, layout_at}
 use Rattle.image_maker.specs.Written.{rows_bytes, strings_of, blobs_of}
 use Rattle.image_maker.specs.File.{known_parts, root_bytes, bodies_address, tables_bytes, padded, zeros, round_up}
 use Rattle.image_maker.specs.Whole.{cells_in, tables_in, streams_of, bodies_in, image_bytes, rva_in}
-use Rattle.image_maker.specs.Made.{HasStreams, HasSections, ArePlaced}
+use Rattle.image_maker.specs.Made.{AreAligned, HasStreams, HasSections, ArePlaced}
 use Rattle.image_maker.proofs.FilePlaces as file
 use Rattle.image_maker.proofs.LengthFile.{padded-ge, tables_length}
 use Rattle.image_maker.proofs.RootPlacesNamed.{IsRootOf, IsPart, root_found, are_further}
 use Rattle.image_maker.proofs.TablePlaces as tables
-use Rattle.image_maker.proofs.BodyPlaces.{are_placed}
+use Rattle.image_maker.proofs.BodyPlaces.{are_placed, are_aligned}
 use Rattle.image_maker.proofs.LayoutMoves.{same_bytes}
 use Rattle.image_maker.proofs.WrittenParts.{tables_more}
 
@@ -156,16 +156,20 @@ module _ (m : Module)
     body_found : (k len : ℕ) → k + len ≤ length (bodies_in m)
         → (span : Span)
         × (span_of made (pe_of made).sections_at (pe_of made).sections (bodies_address + k) len ≡ Some span)
-        × LiesIn (length made) span × (cut made span ≡ take len (drop k (bodies_in m)))
+        × LiesIn (length made) span × (cut made span ≡ take len (drop k (bodies_in m))) × (span.at ≡ 0x248 + k)
     body_found k len within = (
       record { at = 0x248 + k; len = len },
       file.body_span (bodies_in m) metadata short k len within,
       file.body_inside (bodies_in m) metadata short k len within,
       file.body_cut (bodies_in m) metadata short k len within,
+      refl,
     )
 
     pub bodies_placed : ArePlaced made (rva_in m) (all_methods m)
     bodies_placed = are_placed made (all_methods m) body_found
+
+    pub bodies_aligned : AreAligned made (rva_in m) (all_methods m)
+    bodies_aligned = are_aligned made (all_methods m) body_found
 
     pub sections_are : HasSections made
     sections_are = file.sections (bodies_in m) metadata short

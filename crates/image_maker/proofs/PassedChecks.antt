@@ -2,10 +2,11 @@
 use Rattle.std.proofs.Common.{◌≡◌, ℕ, zero, suc, ◌+◌, ◌<◌, Bool, true, false, ◌∷◌, None, refl, arith}
 use Rattle.std.specs.List.{flat_map, range_with_len}
 use Rattle.cli_words.specs.Check.{check, first_fault}
+use Rattle.cli_words.specs.declared.check.CheckCode.{CheckCode}
 use Rattle.cli_words.proofs.FirstFault.{Checks, none_next}
 
 -- a check that passes, before others that pass
-pub pass : (test : Bool) (code at : ℕ) (rest : Checks) → test ≡ true → first_fault rest ≡ None
+pub pass : (test : Bool) (code : CheckCode) (at : ℕ) (rest : Checks) → test ≡ true → first_fault rest ≡ None
     → first_fault (check test code at ∷ rest) ≡ None
 pass true code at rest e others = others
 pass false code at rest e others = absurd (cc)

@@ -2,9 +2,10 @@
 use Rattle.std.proofs.Common.{◌≡◌, ℕ, ◌+◌, ◌<◌, true, List, [], ◌∷◌, map, None, refl, sym, ap, subst, ◌∙◌, arith}
 use Rattle.std.specs.List.{range_with_len}
 use Rattle.cli_words.specs.Check.{check, first_fault}
+use Rattle.cli_words.specs.declared.check.CheckCode.TheVariants as code
 use Rattle.cli_words.proofs.FirstFault.{first_fault-none}
 use Rattle.pe_image.specs.Checks.{pe_checks}
-use Rattle.meta_heaps.specs.Heaps.{cut}
+use Rattle.cli_words.specs.Span.{cut}
 use Rattle.meta_heaps.specs.Reading.{root_checks}
 use Rattle.metadata_tables.specs.Reading.{checks as stream_checks}
 use Rattle.assembly_image.specs.Module as image
@@ -27,8 +28,8 @@ module _ (m : Module) (rva : ℕ → ℕ) (f : List ℕ)
     (guids : cut f (heaps_of f).guids ≡ m.guids)
   where
     assembly_passes : first_fault
-        (check (has_assembly f (heaps_of f) (tables_of f)) 16 (heaps_of f).tables.at ∷ []) ≡ None
-    assembly_passes = pass _ 16 (heaps_of f).tables.at [] assembly refl
+        (check (has_assembly f (heaps_of f) (tables_of f)) code.NoAssembly (heaps_of f).tables.at ∷ []) ≡ None
+    assembly_passes = pass _ code.NoAssembly (heaps_of f).tables.at [] assembly refl
 
     passes : first_fault (image_checks f) ≡ None
     passes =

@@ -5,7 +5,7 @@ use Rattle.std.proofs.lemmas.Nat.{from_le_bytes-to_le_bytes_2}
 use Rattle.std.specs.List.{list_all, flat_map, AllZip}
 use Rattle.std.specs.Prelude.{codes}
 use Rattle.cli_words.specs.Number.{number_at}
-use Rattle.meta_heaps.specs.Heaps.{LiesIn, cut, zero_after}
+use Rattle.cli_words.specs.Span.{LiesIn, cut, zero_after}
 use Rattle.meta_heaps.specs.Streams.{stream_count, headers, headers_from, name_len, name_of, stream_of, header_end, fits}
 use Rattle.image_maker.specs.File.{Stream, half, long, zeros, round_up, padded, stream_header, stream_headers, headers_len, root_bytes}
 use Rattle.image_maker.specs.Sound.{has_no_zero}

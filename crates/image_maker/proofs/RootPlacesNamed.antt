@@ -6,9 +6,10 @@ use Rattle.std.specs.Option.{option_map_or}
 use Rattle.std.specs.Str.{bytes_eq}
 use Rattle.std.proofs.lemmas.Bool.{and_parts, and_from, or_parts, or_from, le-leb, not-true}
 use Rattle.std.proofs.lemmas.Bool.Decides.{nat_tests}
+use Rattle.cli_words.specs.declared.check.CheckCode.TheVariants as code
 use Rattle.cli_words.specs.Check.{first_fault}
 use Rattle.cli_words.specs.declared.span.Span.{Span}
-use Rattle.meta_heaps.specs.Heaps.{LiesIn, cut}
+use Rattle.cli_words.specs.Span.{LiesIn, cut}
 use Rattle.meta_heaps.specs.Streams.{headers_at, headers, name_of, stream_of, fits, is_named, named}
 use Rattle.meta_heaps.specs.Reading.{span_of, root_checks, root_of}
 use Rattle.image_maker.specs.Sound.{is_stream_name, known_streams}
@@ -193,11 +194,11 @@ module _ (bytes : List ℕ) (root : Span) (tables strings user_strings guids blo
       (let at : headers_at (root_bytes streams) ≡ 32 = refl in omega arith) in
       let signed : starts_with nat_eq metadata (0x42 ∷ 0x53 ∷ 0x4A ∷ 0x42 ∷ []) ≡ true =
       ap (λ xs. starts_with nat_eq xs (0x42 ∷ 0x53 ∷ 0x4A ∷ 0x42 ∷ [])) written in
-      pass _ 1 (length bytes) _ (le-leb _ _ lies)
-      (pass _ 8 root.at _ signed
-      (pass _ 9 root.at _ (le-leb _ _ room)
+      pass _ code.Cut (length bytes) _ (le-leb _ _ lies)
+      (pass _ code.RootSignature root.at _ signed
+      (pass _ code.Bounds root.at _ (le-leb _ _ room)
       (rw (all_fit metadata (headers metadata) streams all_found, no_older)
-      (pass _ 11 root.at [] (le-leb _ _ (omega (arith, tables_found.len_is))) refl))))
+      (pass _ code.NoTables root.at [] (le-leb _ _ (omega (arith, tables_found.len_is))) refl))))
 
   pub root_found : IsRootOf bytes root tables strings user_strings guids blobs further
   root_found = record {

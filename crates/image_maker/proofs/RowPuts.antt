@@ -1,5 +1,5 @@
 -- How what is put one after the other is put as a whole.
-use Rattle.std.proofs.Common.{◌≡◌, ℕ, ◌+◌, ◌<◌, ◌≤◌, ◌==◌, Bool, true, false, List, [], ◌∷◌, ◌++◌, length, get_or, drop, map, refl, sym, ap, subst, ◌∙◌, append_assoc, length-append, arith}
+use Rattle.std.proofs.Common.{◌≡◌, ℕ, zero, suc, ◌+◌, ◌<◌, ◌≤◌, ◌==◌, Bool, true, false, List, [], ◌∷◌, ◌++◌, length, get_or, drop, map, refl, sym, ap, subst, ◌∙◌, append_assoc, length-append, arith}
 use Rattle.std.proofs.lemmas.Bool.{and_parts}
 use Rattle.std.proofs.lemmas.Bool.Decides.{nat_tests}
 use Rattle.std.proofs.lemmas.List.{append-nil, drop_all, map-append}
@@ -7,14 +7,16 @@ use Rattle.std.proofs.lemmas.Slice.Zip.{length-zip, get_or-zip}
 use Rattle.std.proofs.lemmas.Grind.{flat_map-append}
 use Rattle.std.specs.List.{flat_map, zip}
 use Rattle.metadata_tables.specs.declared.schema.Column.{Column}
-use Rattle.metadata_tables.specs.declared.schema.Column.TheVariants.{U8, U16, U32, Strings, Guid, Blob, Table, Run, Coded}
+use Rattle.metadata_tables.specs.declared.schema.Column.TheVariants.{U8, U16, U32, Strings, Guid, Blob, Table, List as ListColumn, Coded}
 use Rattle.metadata_tables.specs.Columns.{columns_of}
-use Rattle.assembly_image.specs.Cells.{column_of}
+use Rattle.metadata_tables.specs.Columns.{column_of}
 use Rattle.image_maker.specs.declared.module.Cell.{Cell}
 use Rattle.image_maker.specs.declared.module.Cell.TheVariants.{Number, Text, Bytes}
 use Rattle.image_maker.specs.declared.module.TypeRow.{TypeRow}
 use Rattle.image_maker.specs.declared.writer.Writer.{Writer}
 use Rattle.image_maker.specs.Rows.{type_row, type_rows, given_rows}
+use Rattle.image_maker.specs.declared.rows.Held.{Held}
+use Rattle.image_maker.specs.Held.{are_fitting, cell_of, fits_in}
 use Rattle.image_maker.specs.Sound.{fits, has_fitting}
 use Rattle.image_maker.specs.Written.{Cells, Holds, Puts, row_cells, table_cells}
 use Rattle.image_maker.proofs.RangeLemmas.{all_at}
@@ -159,6 +161,26 @@ fitting_cell table cells k column cell fitting within c d =
     ap (λ (cl : Column). fits cl cell) (same_read (columns_of table) k column inside c U8)
     ∙ ap (fits (column_of table k)) (same_read cells k cell within d (Number 0)) ∙ at
 
+-- what is known of cells that fit their columns
+pub fitting_length : (columns : List Column) (cells : List Held) → are_fitting columns cells ≡ true
+    → length cells ≡ length columns
+fitting_length [] [] fitting = refl
+fitting_length [] (held ∷ cells) fitting = absurd (cc)
+fitting_length (column ∷ columns) [] fitting = absurd (cc)
+fitting_length (column ∷ columns) (held ∷ cells) fitting =
+    ap suc (fitting_length columns cells (and_parts _ _ fitting).1)
+
+pub fitting_held : (columns : List Column) (cells : List Held) (k : ℕ) (column : Column) (held : Held)
+    → are_fitting columns cells ≡ true → k < length cells → column ≡ get_or columns k column
+    → held ≡ get_or cells k held → fits_in column held ≡ true
+fitting_held [] cells k column held fitting within c d =
+    let none = fitting_length [] cells fitting in absurd (omega arith)
+fitting_held (first ∷ columns) [] k column held fitting within c d = absurd (cc)
+fitting_held (first ∷ columns) (cell ∷ cells) zero column held fitting within c d =
+    ap (λ (cl : Column). fits_in cl held) c ∙ ap (fits_in first) d ∙ (and_parts _ _ fitting).0
+fitting_held (first ∷ columns) (cell ∷ cells) (suc k) column held fitting within c d =
+    fitting_held columns cells k column held (and_parts _ _ fitting).1 (omega arith) c d
+
 -- what fits a text, and what fits a blob
 pub text_column : (column : Column) (bytes : List ℕ) → fits column (Text bytes) ≡ true → column ≡ Strings
 text_column Strings bytes fitting = refl
@@ -168,7 +190,7 @@ text_column U16 bytes fitting = absurd (cc)
 text_column U32 bytes fitting = absurd (cc)
 text_column Guid bytes fitting = absurd (cc)
 text_column (Table table) bytes fitting = absurd (cc)
-text_column (Run table) bytes fitting = absurd (cc)
+text_column (ListColumn table) bytes fitting = absurd (cc)
 text_column (Coded index) bytes fitting = absurd (cc)
 
 pub blob_column : (column : Column) (bytes : List ℕ) → fits column (Bytes bytes) ≡ true → column ≡ Blob
@@ -179,5 +201,22 @@ blob_column U16 bytes fitting = absurd (cc)
 blob_column U32 bytes fitting = absurd (cc)
 blob_column Guid bytes fitting = absurd (cc)
 blob_column (Table table) bytes fitting = absurd (cc)
-blob_column (Run table) bytes fitting = absurd (cc)
+blob_column (ListColumn table) bytes fitting = absurd (cc)
 blob_column (Coded index) bytes fitting = absurd (cc)
+
+-- what is put into a column of texts, or of blobs, is put into the column that it fits
+pub put_as_text : (column : Column) (any put : List ℕ) (given held : Held) (x y : Writer) → given ≡ held
+    → fits column (Text any) ≡ true → cell_of held ≡ Text put → Puts ((Strings, Text put) ∷ []) x y
+    → Puts ((column, cell_of given) ∷ []) x y
+put_as_text column any put given held x y is fitting same puts =
+    subst (λ (cs : Cells). Puts cs x y)
+    (ap (λ (cl : Column). (cl, Text put) ∷ []) (sym (text_column column any fitting))
+    ∙ ap (λ (it : Cell). (column, it) ∷ []) (sym (ap cell_of is ∙ same))) puts
+
+pub put_as_blob : (column : Column) (any put : List ℕ) (given held : Held) (x y : Writer) → given ≡ held
+    → fits column (Bytes any) ≡ true → cell_of held ≡ Bytes put → Puts ((Blob, Bytes put) ∷ []) x y
+    → Puts ((column, cell_of given) ∷ []) x y
+put_as_blob column any put given held x y is fitting same puts =
+    subst (λ (cs : Cells). Puts cs x y)
+    (ap (λ (cl : Column). (cl, Bytes put) ∷ []) (sym (blob_column column any fitting))
+    ∙ ap (λ (it : Cell). (column, it) ∷ []) (sym (ap cell_of is ∙ same))) puts

@@ -4,10 +4,11 @@ use Rattle.std.specs.Int.{from_le_bytes}
 use Rattle.std.specs.List.{list_all, flat_map, range_with_len}
 use Rattle.std.proofs.lemmas.Bool.{cases_lt, ltb-false, lt-ltb, le-leb}
 use Rattle.std.proofs.lemmas.Nat.{from_le_bytes-to_le_bytes_4, from_le_bytes-to_le_bytes_8}
+use Rattle.cli_words.specs.declared.check.CheckCode.TheVariants as code
 use Rattle.cli_words.specs.Number.{number_at}
 use Rattle.cli_words.specs.Check.{first_fault}
 use Rattle.cli_words.specs.declared.span.Span.{Span}
-use Rattle.meta_heaps.specs.Heaps.{LiesIn, cut}
+use Rattle.cli_words.specs.Span.{LiesIn, cut}
 use Rattle.metadata_tables.specs.declared.layout.Layout.{Layout}
 use Rattle.metadata_tables.specs.Layout.{is_set, rows_end}
 use Rattle.metadata_tables.specs.Reading.{valid_of, present_below, count_at, count_in, counts_of, layout_of, is_known, has_count, is_allowed, are_allowed, lies_whole, checks}
@@ -195,4 +196,4 @@ module _ (bytes rows : List ℕ) (span : Span) (counts : ℕ → ℕ) (lies : Li
       let ends : rows_end (layout_of bytes span.at) ≡ rows_end (written_layout span.at counts) =
       ap rows_end layout_read in
       let whole : lies_whole bytes span ≡ true = le-leb _ _ (omega arith) in
-      pass (are_allowed bytes span) 12 span.at _ fine (pass (lies_whole bytes span) 9 span.at [] whole refl)
+      pass (are_allowed bytes span) code.Table span.at _ fine (pass (lies_whole bytes span) code.Bounds span.at [] whole refl)

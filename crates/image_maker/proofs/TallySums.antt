@@ -74,19 +74,6 @@ module _ (types : List TypeRow) (i : ℕ) (item : TypeRow) (within : i < length 
         (sym (sum_by-append bytes (flat_map part (take i types)) (part item))
         ∙ ap (sum_by bytes) (sym (one_more part)))
 
--- the rows of one more table
-pub total_next : (m : Module) (table count_is total next : ℕ) → count_is ≡ min (count m table) most
-    → next ≡ min (total + count_is) most
-    → total ≡ min (sum_by (count m) (range_with_len 0 table)) most
-    → next ≡ min (sum_by (count m) (range_with_len 0 (table + 1))) most
-total_next m table count_is total next here sum before =
-    let more = ap (sum_by (count m)) (range_next table) ∙ sum_by_push (count m) (range_with_len 0 table) table in
-    omega arith
-
-pub total_all : (m : Module) (table total : ℕ) → table ≡ 45
-    → total ≡ min (sum_by (count m) (range_with_len 0 table)) most → total ≡ min (row_count m) most
-total_all m table total e sum = sum ∙ ap (λ n. min (sum_by (count m) (range_with_len 0 n)) most) e
-
 cells_texts : (cells : List Cell) → flat_map cell_texts cells ≡ texts_in cells
 cells_texts [] = refl
 cells_texts (Number value ∷ cells) = cells_texts cells

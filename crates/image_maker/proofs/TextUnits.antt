@@ -14,40 +14,7 @@ use lib.Dec.{lit<}
 use Rattle.cli_words.specs.Text.{bytes_of}
 use Rattle.image_maker.specs.Sound.{has_no_zero, is_whole}
 use Rattle.image_maker.specs.Tally.{most}
-use Rattle.image_maker.specs.Units.{IsFirst, begins_with_pair}
-
-two_units : (u v : ℕ) (us : List ℕ) → begins_with_pair (u ∷ v ∷ us) ≡ (is_high_surrogate u && is_low_surrogate v)
-two_units u v us = ap (λ b. b && (is_high_surrogate u && is_low_surrogate v))
-    (le-leb 2 (length (u ∷ v ∷ us)) (omega arith))
-
--- what the first units spell
-pub first_pair : (units : List ℕ) → begins_with_pair units ≡ true
-    → IsFirst units (Some (surrogate_pair_char (get_or units 0 0) (get_or units 1 0)), 2)
-unfolding utf16_chars
-first_pair [] pair = absurd (cc)
-first_pair (u ∷ []) pair = absurd (cc)
-first_pair (u ∷ v ∷ us) pair = record {
-  spelled = ap (λ b. cond b (Some (surrogate_pair_char u v) ∷ utf16_chars us)
-      (lone_unit_char u ∷ utf16_chars (v ∷ us)))
-      (sym (two_units u v us) ∙ pair);
-  some = omega arith;
-  within = omega arith;
-  few = omega arith;
-}
-
-pub first_lone : (units : List ℕ) → 0 < length units → begins_with_pair units ≡ false
-    → IsFirst units (lone_unit_char (get_or units 0 0), 1)
-unfolding utf16_chars
-first_lone [] long apart = absurd (omega arith)
-first_lone (u ∷ []) long apart = record { spelled = refl; some = omega arith; within = omega arith; few = omega arith }
-first_lone (u ∷ v ∷ us) long apart = record {
-  spelled = ap (λ b. cond b (Some (surrogate_pair_char u v) ∷ utf16_chars us)
-      (lone_unit_char u ∷ utf16_chars (v ∷ us)))
-      (sym (two_units u v us) ∙ apart);
-  some = omega arith;
-  within = omega arith;
-  few = omega arith;
-}
+use Rattle.cli_words.specs.Character.{IsFirst}
 
 not_zero : (a b : ℕ) → 0 < a → not (a + b == 0) ≡ true
 not_zero a b some = grind (arith, nat_tests)

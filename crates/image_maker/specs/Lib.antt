@@ -3,11 +3,12 @@ pub mod Sound
 pub mod Size
 pub mod Made
 pub mod Written
+pub mod Held
 pub mod File
 pub mod Whole
-pub mod Field
+pub mod Headers
 pub mod Tally
-pub mod Units
 pub mod Params
 pub mod MethodsPut
 pub mod Samples
+pub mod Plans

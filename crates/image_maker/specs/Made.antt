@@ -1,11 +1,11 @@
 -- What an image is that is made of a module (ECMA-335 II.22 to II.25; that sections and streams are these, and
 -- the bound on the length, is own).
-use Rattle.std.specs.Prelude.{ℕ, ◌≡◌, ◌+◌, ◌*◌, ◌≤◌, List, ◌∷◌, [], ◌++◌, map, length, take, drop, slice_get, Option, Some, MatchOption, codes, replicate}
+use Rattle.std.specs.Prelude.{ℕ, ◌≡◌, ◌+◌, ◌*◌, ◌%◌, ◌≤◌, List, ◌∷◌, [], ◌++◌, map, length, take, drop, slice_get, slice_index, Option, Some, MatchOption, codes, replicate}
 use Rattle.cli_words.specs.declared.span.Span.{Span}
 use Rattle.pe_image.specs.Section as section
 use Rattle.pe_image.specs.Layout.{signature_place, magic}
 use Rattle.pe_image.specs.Reading.{pe_of}
-use Rattle.meta_heaps.specs.Heaps.{LiesIn, cut}
+use Rattle.cli_words.specs.Span.{LiesIn, cut}
 use Rattle.meta_heaps.specs.Streams.{headers, name_of, stream_of}
 use Rattle.assembly_image.specs.Reading.{Reads, metadata_of}
 use Rattle.image_maker.specs.declared.module.Module.{Module}
@@ -59,6 +59,15 @@ ArePlaced bytes rva methods =
     (n : ℕ) (method : MethodRow) → slice_get methods n ≡ Some method
     → IsPlaced bytes (rva (n + 1)) method.body
 
+-- a body whose header is fat, with 3 in its lowest two bits, begins at a multiple of four, in memory and in the
+-- file (II.25.4, II.25.4.1)
+abbrev pub AreAligned : List ℕ → (ℕ → ℕ) → List MethodRow → Type 0
+AreAligned bytes rva methods =
+    (n : ℕ) (method : MethodRow) (code : List ℕ) (span : Span) → slice_get methods n ≡ Some method
+    → method.body ≡ Some code → slice_index code 0 % 4 ≡ 3
+    → section.span_of bytes (pe_of bytes).sections_at (pe_of bytes).sections (rva (n + 1)) (length code) ≡ Some span
+    → (rva (n + 1) % 4 ≡ 0) × (span.at % 4 ≡ 0)
+
 -- the streams of metadata, each with its name
 abbrev pub streams_in : List ℕ → List (List ℕ × List ℕ)
 streams_in metadata =
@@ -76,6 +85,7 @@ pub record IsMade (m : Module) (bytes : List ℕ) : Type 0 where
   pub rva : ℕ → ℕ
   pub reads : Reads bytes (image_of m rva)
   pub bodies : ArePlaced bytes rva (all_methods m)
+  pub aligned : AreAligned bytes rva (all_methods m)
   pub streams : HasStreams (cut bytes (metadata_of bytes)) m.streams
   pub sections : HasSections bytes
   pub short : length bytes ≤ size_of m

@@ -1,4 +1,4 @@
--- The modules that are made as samples.
+-- The modules that are made as samples (own).
 use Rattle.std.specs.Prelude.{ℕ, ◌+◌, ◌*◌, List, [], ◌∷◌, length, Some, codes}
 use Rattle.assembly_name.specs.declared.version.AssemblyRef.{AssemblyRef}
 use Rattle.assembly_name.specs.declared.version.Version.{Version}
@@ -54,7 +54,7 @@ runtime = reference_of (codes "System.Runtime") (version_of 8 0 0 0)
 abbrev pub object : TypeRefRow
 object = type_ref_of 6 (codes "System") (codes "Object")
 
--- the type that all that stands in no type is of
+-- the type to which belongs what stands in no type (II.22.37)
 abbrev pub nowhere : TypeRow
 nowhere = type_of [] (codes "<Module>") 0 [] []
 

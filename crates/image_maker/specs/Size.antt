@@ -25,9 +25,12 @@ all_blobs m =
     ++ (m.specs
     ++ flat_map (λ r. blobs_in r.1) m.rows)))
 
--- how many rows there are, those of Module and Assembly included
+-- how many rows there are, those of Module and Assembly included, and those that are given for a table that a
+-- module may not have
 abbrev pub row_count : Module → ℕ
-row_count m = sum_by (count m) (range_with_len 0 45)
+row_count m =
+    2 + length m.refs + length m.type_refs + length m.types + length (all_fields m) + length (all_methods m)
+    + length m.members + length m.specs + length m.rows
 
 -- what the body of a method adds
 abbrev pub body_size : MethodRow → ℕ

@@ -10,9 +10,9 @@ use Rattle.cli_words.specs.Text.{bytes_of}
 use Rattle.meta_heaps.specs.declared.heap.Root.{Root}
 use Rattle.metadata_tables.specs.declared.layout.Layout.{Layout}
 use Rattle.metadata_tables.specs.declared.schema.Column.{Column}
-use Rattle.metadata_tables.specs.declared.schema.Column.TheVariants.{U8, U16, U32, Strings, Guid, Blob, Table, Run, Coded}
+use Rattle.metadata_tables.specs.declared.schema.Column.TheVariants.{U8, U16, U32, Strings, Guid, Blob, Table, List as ListColumn, Coded}
 use Rattle.metadata_tables.specs.Columns.{columns_of}
-use Rattle.assembly_image.specs.Cells.{column_of}
+use Rattle.metadata_tables.specs.Columns.{column_of}
 use Rattle.assembly_image.specs.Checks.{is_inside, is_in_order}
 use Rattle.image_maker.specs.declared.module.Module.{Module}
 use Rattle.image_maker.specs.declared.module.Cell.{Cell}
@@ -26,7 +26,7 @@ fits U16 (Number value) = nat_lt value (2 ^ 16)
 fits U32 (Number value) = true
 fits Guid (Number value) = true
 fits (Table table) (Number value) = true
-fits (Run table) (Number value) = true
+fits (ListColumn table) (Number value) = true
 fits (Coded index) (Number value) = true
 fits Strings (Text bytes) = true
 fits Blob (Bytes bytes) = true

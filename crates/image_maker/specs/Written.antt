@@ -9,7 +9,7 @@ use Rattle.metadata_tables.specs.declared.layout.Layout.{Layout}
 use Rattle.metadata_tables.specs.declared.layout.Width.{Width}
 use Rattle.metadata_tables.specs.declared.layout.Width.TheVariants.{One, Two, Four}
 use Rattle.metadata_tables.specs.declared.schema.Column.{Column}
-use Rattle.metadata_tables.specs.declared.schema.Column.TheVariants.{U8, U16, U32, Strings, Guid, Blob, Table, Run, Coded}
+use Rattle.metadata_tables.specs.declared.schema.Column.TheVariants.{U8, U16, U32, Strings, Guid, Blob, Table, List as ListColumn, Coded}
 use Rattle.metadata_tables.specs.Columns.{columns_of}
 use Rattle.metadata_tables.specs.Layout.{width_of}
 use Rattle.image_maker.specs.declared.module.Cell.{Cell}
@@ -95,7 +95,7 @@ is_kept (U16, Number value) = nat_lt value (2 ^ 16)
 is_kept (U32, Number value) = nat_lt value (2 ^ 32)
 is_kept (Guid, Number value) = nat_lt value (2 ^ 32)
 is_kept (Table table, Number value) = nat_lt value (2 ^ 32)
-is_kept (Run table, Number value) = nat_lt value (2 ^ 32)
+is_kept (ListColumn table, Number value) = nat_lt value (2 ^ 32)
 is_kept (Coded index, Number value) = nat_lt value (2 ^ 32)
 is_kept (Strings, Text bytes) = is_utf8 bytes
 is_kept (Blob, Bytes bytes) = true

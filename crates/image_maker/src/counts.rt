@@ -6,9 +6,10 @@ ghost use Rattle.image_maker.specs.Size.{long_table};
 ghost use Rattle.image_maker.specs.Tally.{Tells, most, given_count};
 
 use crate::module::{Module, TypeRow};
+use metadata_tables::{TABLE_COUNT, table};
 
 /// How many tables there may be.
-pub(crate) const TABLES: u8 = 45;
+pub(crate) const TABLES: u8 = TABLE_COUNT as u8;
 
 impl Module {
     /// How many rows each table has, at most `u64::MAX`.
@@ -39,14 +40,14 @@ impl Module {
         ensures { result ≡ min (count self.now table) most }
     {
         match table {
-            0x00 | 0x20 => 1,
-            0x01 => self.type_refs.items().len() as u64,
-            0x02 => self.types.items().len() as u64,
-            0x04 => field_count(self.types.items()),
-            0x06 => method_count(self.types.items()),
-            0x0A => self.members.items().len() as u64,
-            0x1B => self.specs.items().len() as u64,
-            0x23 => self.refs.items().len() as u64,
+            table::MODULE | table::ASSEMBLY => 1,
+            table::TYPE_REF => self.type_refs.items().len() as u64,
+            table::TYPE_DEF => self.types.items().len() as u64,
+            table::FIELD => field_count(self.types.items()),
+            table::METHOD_DEF => method_count(self.types.items()),
+            table::MEMBER_REF => self.members.items().len() as u64,
+            table::TYPE_SPEC => self.specs.items().len() as u64,
+            table::ASSEMBLY_REF => self.refs.items().len() as u64,
             _ => self.given_count(table),
         }
     }
@@ -63,7 +64,7 @@ impl Module {
     }
 }
 
-fn field_count(types: &[TypeRow]) -> u64
+pub(crate) fn field_count(types: &[TypeRow]) -> u64
     ensures { result ≡ min (sum_by (λ t. length t.fields) types.now) most }
 {
     let mut count: u64 = 0;
@@ -73,7 +74,7 @@ fn field_count(types: &[TypeRow]) -> u64
     count
 }
 
-fn method_count(types: &[TypeRow]) -> u64
+pub(crate) fn method_count(types: &[TypeRow]) -> u64
     ensures { result ≡ min (sum_by (λ t. length t.methods) types.now) most }
 {
     let mut count: u64 = 0;

@@ -2,10 +2,10 @@
 //! which the first holds all that is read (ECMA-335 II.25).
 ghost use Rattle.std.specs.Prelude.{◌≡◌, ℕ, ◌+◌, ◌<◌, ◌^◌, ◌++◌, length, replicate, IfOk};
 ghost use Rattle.std.specs.List.{flat_map};
-ghost use Rattle.image_maker.specs.Field.{field_bytes};
+ghost use Rattle.image_maker.specs.Headers.{piece_bytes};
 ghost use Rattle.image_maker.specs.File.{round_up, file_headers, cli_header, file_bytes};
 
-use Field::{Half, Long, Text, Zeros};
+use HeaderPiece::{Half, Long, Text, Zeros};
 use std::alloc::{AllocError, Global};
 
 // Sections begin at multiples of these in memory and in the file.
@@ -22,7 +22,7 @@ const CLI_HEADER_LEN: u32 = 72;
 
 /// A piece of a header. Numbers are written with their lowest byte first.
 #[derive(Drop)]
-pub(crate) enum Field {
+pub(crate) enum HeaderPiece {
     Text(&'static [u8]),
     Zeros(u32),
     Half(u16),
@@ -43,8 +43,8 @@ pub(crate) fn write_file(
     let text = CLI_HEADER_LEN + bodies_len + metadata_len;
     let metadata_address = TEXT_ADDRESS + CLI_HEADER_LEN + bodies_len;
     let mut file = Vec::new(alloc);
-    put_fields(&mut file, &headers(text))?;
-    put_fields(&mut file, &cli_header(metadata_address, metadata_len))?;
+    put_pieces(&mut file, &headers(text))?;
+    put_pieces(&mut file, &cli_header(metadata_address, metadata_len))?;
     file.extend_from_slice(bodies)?;
     file.extend_from_slice(metadata)?;
     put_zeros(&mut file, round_up(FILE_UNIT, text) - text)?;
@@ -53,9 +53,9 @@ pub(crate) fn write_file(
 }
 
 // The headers of a file whose section of code has `text` bytes.
-fn headers(text: u32) -> [Field; 67]
+fn headers(text: u32) -> [HeaderPiece; 67]
     requires { text < 2 ^ 31 }
-    ensures { flat_map field_bytes result ≡ file_headers text }
+    ensures { flat_map piece_bytes result ≡ file_headers text }
 {
     let size = round_up(FILE_UNIT, text);
     let second = TEXT_ADDRESS + round_up(MEMORY_UNIT, text);
@@ -140,8 +140,8 @@ fn headers(text: u32) -> [Field; 67]
 }
 
 // The CLI header, with the RVA and the length of the metadata.
-fn cli_header(address: u32, len: u32) -> [Field; 7]
-    ensures { flat_map field_bytes result ≡ cli_header address len }
+fn cli_header(address: u32, len: u32) -> [HeaderPiece; 7]
+    ensures { flat_map piece_bytes result ≡ cli_header address len }
 {
     [
         Long(CLI_HEADER_LEN),
@@ -164,20 +164,20 @@ fn round_up(unit: u32, n: u32) -> u32
 }
 
 /// Puts the pieces after what the file has.
-pub(crate) fn put_fields(file: &mut Vec<u8>, fields: &[Field]) -> Result<(), AllocError>
+pub(crate) fn put_pieces(file: &mut Vec<u8>, pieces: &[HeaderPiece]) -> Result<(), AllocError>
     ensures { IfOk result
-        (λ _. file.new.items ≡ file.old.items ++ flat_map field_bytes fields.now) }
+        (λ _. file.new.items ≡ file.old.items ++ flat_map piece_bytes pieces.now) }
 {
-    for field in fields {
-        put_field(file, field)?;
+    for piece in pieces {
+        put_piece(file, piece)?;
     }
     Ok(())
 }
 
-fn put_field(file: &mut Vec<u8>, field: &Field) -> Result<(), AllocError>
-    ensures { IfOk result (λ _. file.new.items ≡ file.old.items ++ field_bytes field.now) }
+fn put_piece(file: &mut Vec<u8>, piece: &HeaderPiece) -> Result<(), AllocError>
+    ensures { IfOk result (λ _. file.new.items ≡ file.old.items ++ piece_bytes piece.now) }
 {
-    match field {
+    match piece {
         Text(bytes) => file.extend_from_slice(bytes),
         Zeros(count) => put_zeros(file, *count),
         Half(value) => file.extend_from_slice(&value.to_le_bytes()),

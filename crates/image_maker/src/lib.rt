@@ -5,25 +5,22 @@ mod counts;
 mod fault;
 mod file;
 mod limit;
-mod listed;
 mod maker;
 mod module;
+mod plans;
 mod rows;
 mod samples;
 mod size;
 mod sound;
 mod streams;
 mod tally;
-mod text;
 mod units;
 mod writer;
 
 pub use fault::MakeFault;
-pub use listed::Listed;
 pub use maker::make;
 pub use module::{Cell, FieldRow, MemberRow, MethodRow, Module, TypeRefRow, TypeRow};
 pub use samples::{SampleName, sample};
-pub use text::Text;
 
 #[cfg(test)]
 mod tests;

@@ -22,8 +22,8 @@ const HEAP_SIZES: u8 = 7;
 
 /// An image that is read as the module, with its bodies and its further streams: a PE32 file with
 /// the sections `.text`, `.rsrc` and `.reloc`, never longer than the module's size. The RVA of a
-/// method without a body is 0. `Limit` exactly where the module passes a limit. ECMA-335 II.22 to
-/// II.25.
+/// method without a body is 0, and that of a body with a fat header a multiple of four. `Limit`
+/// exactly where the module passes a limit. ECMA-335 II.22 to II.25.
 pub fn make(alloc: Global, source: &Module) -> Result<Vec<u8>, MakeFault>
     requires { is_sound source.now ≡ true }
     ensures made { IfOk result (λ image. IsMade source.now image.items) }

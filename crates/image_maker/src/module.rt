@@ -1,6 +1,5 @@
-use crate::listed::Listed;
-use crate::text::Text;
 use assembly_name::{AssemblyRef, Version};
+use cli_words::{Listed, Utf8Text};
 
 /// What stands in a column of a row that a module gives as cells.
 #[derive(Debug, Drop)]
@@ -8,7 +7,7 @@ pub enum Cell {
     /// A number, which an index of a row or into the heap of GUIDs is too.
     Number(u32),
     /// A string.
-    Text(Text),
+    Text(Utf8Text),
     /// The bytes of a blob.
     Bytes(Listed<u8>),
 }
@@ -18,7 +17,7 @@ pub enum Cell {
 #[derive(Debug, Drop)]
 pub struct Module {
     /// The simple name of the assembly, which its one Module row has too.
-    pub name: Text,
+    pub name: Utf8Text,
     pub version: Version,
     /// The rows of AssemblyRef.
     pub refs: Listed<AssemblyRef>,
@@ -35,7 +34,7 @@ pub struct Module {
     /// The rows of all other tables, each with the number of its table, the tables in rising order.
     pub rows: Listed<(u8, Listed<Cell>)>,
     /// Further streams, each with its name.
-    pub streams: Listed<(Text, Listed<u8>)>,
+    pub streams: Listed<(Utf8Text, Listed<u8>)>,
 }
 
 /// A row of TypeRef. ECMA-335 II.22.38.
@@ -43,16 +42,16 @@ pub struct Module {
 pub struct TypeRefRow {
     /// A coded index, ResolutionScope.
     pub scope: u32,
-    pub name: Text,
-    pub space: Text,
+    pub name: Utf8Text,
+    pub space: Utf8Text,
 }
 
 /// A row of TypeDef, with the fields and the methods of the type. ECMA-335 II.22.37.
 #[derive(Debug, Drop)]
 pub struct TypeRow {
     pub flags: u32,
-    pub name: Text,
-    pub space: Text,
+    pub name: Utf8Text,
+    pub space: Utf8Text,
     /// A coded index, TypeDefOrRef.
     pub parent: u32,
     pub fields: Listed<FieldRow>,
@@ -63,7 +62,7 @@ pub struct TypeRow {
 #[derive(Debug, Drop)]
 pub struct FieldRow {
     pub flags: u16,
-    pub name: Text,
+    pub name: Utf8Text,
     pub sig: Listed<u8>,
 }
 
@@ -74,7 +73,7 @@ pub struct MethodRow {
     pub impl_flags: u16,
     /// How many rows of Param the method has.
     pub params: u32,
-    pub name: Text,
+    pub name: Utf8Text,
     pub sig: Listed<u8>,
     /// The bytes from the body's header to its last section.
     pub body: Option<Listed<u8>>,
@@ -85,6 +84,6 @@ pub struct MethodRow {
 pub struct MemberRow {
     /// A coded index, MemberRefParent.
     pub class: u32,
-    pub name: Text,
+    pub name: Utf8Text,
     pub sig: Listed<u8>,
 }

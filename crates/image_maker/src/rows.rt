@@ -1,31 +1,153 @@
 //! The rows of a module are written, table by table.
-ghost use Rattle.std.specs.Prelude.{◌≡◌, ℕ, ◌+◌, ◌≤◌, ◌<◌, ◌^◌, ◌==◌, List, [], ◌∷◌, map, length, take, true, false};
+ghost use Rattle.std.specs.Prelude.{◌≡◌, ℕ, ◌+◌, ◌≤◌, ◌<◌, ◌^◌, ◌==◌};
+ghost use Rattle.std.specs.Prelude.{List, [], ◌∷◌, map, length, take, true, false};
 ghost use Rattle.std.specs.List.{flat_map, list_all, sum_by};
 ghost use Rattle.cli_words.specs.Text.{bytes_of};
-ghost use Rattle.metadata_tables.specs.declared.schema.Column.TheVariants.{U16, Strings, Blob};
+ghost use Rattle.metadata_tables.specs.declared.schema.Column.TheVariants.{Strings};
 ghost use Rattle.image_maker.specs.declared.module.Cell.TheVariants as cell;
 ghost use Rattle.image_maker.specs.File.{bodies_bytes, rva_of};
 ghost use Rattle.image_maker.specs.Rows as rows;
-ghost use Rattle.image_maker.specs.Sound.{fits, has_fitting};
+ghost use Rattle.image_maker.specs.Sound.{has_fitting};
+ghost use Rattle.metadata_tables.specs.Columns.{columns_of};
 ghost use Rattle.image_maker.specs.Written.{Holds, Puts, cells_below, row_cells, table_cells};
+ghost use Rattle.image_maker.specs.Held.{cell_of, are_fitting, fits_in, IsFittingAs};
 ghost use Rattle.image_maker.specs.MethodsPut.{PutsMethods, Starts};
 
-use crate::listed::Listed;
+use crate::counts::TABLES;
 use crate::module::{Cell, FieldRow, MemberRow, MethodRow, Module, TypeRefRow, TypeRow};
-use crate::text::Text;
 use crate::writer::Writer;
 use assembly_name::{AssemblyRef, SimpleName};
-use metadata_tables::{CodedIndex, Column, Layout, columns};
+use cli_words::{Listed, Utf8Text};
+use metadata_tables::{Column, Layout, columns, table};
 use std::alloc::Global;
 
-/// How many tables there may be.
-const TABLES: u8 = 45;
+/// What stands in a column of a row.
+#[derive(Clone, Copy)]
+pub(crate) enum Held<'a> {
+    Half(u16),
+    Number(u32),
+    Text(&'a Utf8Text),
+    Name(&'a SimpleName),
+    Bytes(&'a Listed<u8>),
+    NoText,
+    NoBytes,
+}
 
-const FIELD: u8 = 0x04;
+impl Held<'_> {
+    /// What a cell holds.
+    fn of(cell: &Cell) -> Held<'_>
+        ensures is { cell_of result ≡ cell.now }
+        ensures fits { IsFittingAs cell.now result }
+    {
+        match cell {
+            Cell::Number(value) => Held::Number(*value),
+            Cell::Text(text) => Held::Text(text),
+            Cell::Bytes(bytes) => Held::Bytes(bytes),
+        }
+    }
+}
 
-const METHOD_DEF: u8 = 0x06;
+/// What is a row of a table.
+trait Row {
+    ghost use Rattle.std.specs.Prelude.{ℕ, List};
+    ghost use Rattle.image_maker.specs.declared.module.Cell.{Cell};
 
-const PARAM: u8 = 0x08;
+    /// The number of the table.
+    ghost table: { ℕ };
+
+    /// What stands in its columns.
+    ghost cells: { Self → List Cell };
+
+    fn put(&self, writer: &mut Writer)
+        ensures { Puts (row_cells table (cells self.now)) writer.old writer.new };
+}
+
+impl Row for TypeRefRow {
+    ghost use Rattle.image_maker.specs.Rows.{type_ref_row};
+
+    ghost table = { 0x01 };
+
+    ghost cells = { type_ref_row };
+
+    #[tactic(auto, unfolding(metadata_tables::specs::Columns::columns_of))]
+    fn put(&self, writer: &mut Writer) {
+        let (name, space) = (Held::Text(&self.name), Held::Text(&self.space));
+        put_row(
+            writer,
+            table::TYPE_REF,
+            &[Held::Number(self.scope), name, space],
+        );
+    }
+}
+
+impl Row for FieldRow {
+    ghost use Rattle.image_maker.specs.Rows.{field_row};
+
+    ghost table = { 0x04 };
+
+    ghost cells = { field_row };
+
+    #[tactic(auto, unfolding(metadata_tables::specs::Columns::columns_of))]
+    fn put(&self, writer: &mut Writer) {
+        let (name, sig) = (Held::Text(&self.name), Held::Bytes(&self.sig));
+        put_row(writer, table::FIELD, &[Held::Half(self.flags), name, sig]);
+    }
+}
+
+impl Row for MemberRow {
+    ghost use Rattle.image_maker.specs.Rows.{member_row};
+
+    ghost table = { 0x0A };
+
+    ghost cells = { member_row };
+
+    #[tactic(auto, unfolding(metadata_tables::specs::Columns::columns_of))]
+    fn put(&self, writer: &mut Writer) {
+        let (name, sig) = (Held::Text(&self.name), Held::Bytes(&self.sig));
+        put_row(
+            writer,
+            table::MEMBER_REF,
+            &[Held::Number(self.class), name, sig],
+        );
+    }
+}
+
+impl Row for Listed<u8> {
+    ghost use Rattle.image_maker.specs.Rows.{spec_row};
+
+    ghost table = { 0x1B };
+
+    ghost cells = { spec_row };
+
+    #[tactic(auto, unfolding(metadata_tables::specs::Columns::columns_of))]
+    fn put(&self, writer: &mut Writer) {
+        put_row(writer, table::TYPE_SPEC, &[Held::Bytes(self)]);
+    }
+}
+
+impl Row for AssemblyRef {
+    ghost use Rattle.image_maker.specs.Rows.{reference_row};
+
+    ghost table = { 0x23 };
+
+    ghost cells = { reference_row };
+
+    #[tactic(auto, unfolding(metadata_tables::specs::Columns::columns_of))]
+    fn put(&self, writer: &mut Writer) {
+        let cells = [
+            Held::Half(self.version.major),
+            Held::Half(self.version.minor),
+            Held::Half(self.version.build),
+            Held::Half(self.version.revision),
+            Held::Number(0),
+            Held::NoBytes,
+            Held::Name(&self.name),
+            Held::NoText,
+            Held::NoBytes,
+        ];
+        put_row(writer, table::ASSEMBLY_REF, &cells);
+    }
+}
 
 /// Writes the rows of all tables. ECMA-335 II.22.
 pub(crate) fn write_rows(alloc: Global, source: &Module, layout: Layout) -> Writer
@@ -41,18 +163,18 @@ pub(crate) fn write_rows(alloc: Global, source: &Module, layout: Layout) -> Writ
         (rows.all_methods source.now) result }
 {
     let mut writer = Writer::new(alloc, layout);
-    for table in 0..METHOD_DEF {
-        put_table(alloc, &mut writer, source, table);
+    for table in 0..table::METHOD_DEF {
+        put_table(&mut writer, source, table);
     }
     put_methods(&mut writer, source.types.items());
-    for table in METHOD_DEF + 1..TABLES {
-        put_table(alloc, &mut writer, source, table);
+    for table in table::METHOD_DEF + 1..TABLES {
+        put_table(&mut writer, source, table);
     }
     writer
 }
 
 /// Puts the rows of a table other than MethodDef.
-fn put_table(alloc: Global, writer: &mut Writer, source: &Module, table: u8)
+fn put_table(writer: &mut Writer, source: &Module, table: u8)
     requires other { (table == 0x06) ≡ false }
     requires fields { length (rows.all_fields source.now) ≤ 65534 }
     requires methods { length (rows.all_methods source.now) ≤ 65534 }
@@ -61,42 +183,54 @@ fn put_table(alloc: Global, writer: &mut Writer, source: &Module, table: u8)
         → Puts (table_cells table (rows.rows_of source.now rva table)) writer.old writer.new }
 {
     match table {
-        0x00 => put_module(writer, source),
-        0x01 => put_type_refs(writer, source.type_refs.items()),
-        0x02 => put_types(writer, source.types.items()),
-        0x04 => put_fields(writer, source.types.items()),
-        0x0A => put_members(writer, source.members.items()),
-        0x1B => put_specs(writer, source.specs.items()),
-        0x20 => put_assembly(writer, source),
-        0x23 => put_references(alloc, writer, source.refs.items()),
+        table::MODULE => put_module(writer, source),
+        table::TYPE_REF => put_all(writer, source.type_refs.items()),
+        table::TYPE_DEF => put_types(writer, source.types.items()),
+        table::FIELD => put_fields(writer, source.types.items()),
+        table::MEMBER_REF => put_all(writer, source.members.items()),
+        table::TYPE_SPEC => put_all(writer, source.specs.items()),
+        table::ASSEMBLY => put_assembly(writer, source),
+        table::ASSEMBLY_REF => put_all(writer, source.refs.items()),
         _ => put_given(writer, source.rows.items(), table),
     }
 }
 
-fn put_module(writer: &mut Writer, source: &Module)
-    ensures { Puts (row_cells 0x00 (rows.module_row source.now)) writer.old writer.new }
+fn put_all<R: Row>(writer: &mut Writer, rows: &[R])
+    ensures { Puts (table_cells R.table (map R.cells rows.now)) writer.old writer.new }
 {
-    put_half(writer, 0);
-    put_text(writer, &source.name);
-    writer.number(Column::Guid, 0);
-    writer.number(Column::Guid, 0);
-    writer.number(Column::Guid, 0);
-}
-
-fn put_type_refs(writer: &mut Writer, type_refs: &[TypeRefRow])
-    ensures { Puts (table_cells 0x01 (map rows.type_ref_row type_refs.now)) writer.old writer.new }
-{
-    for row in type_refs {
-        put_type_ref(writer, row);
+    for row in rows {
+        row.put(writer);
     }
 }
 
-fn put_type_ref(writer: &mut Writer, row: &TypeRefRow)
-    ensures { Puts (row_cells 0x01 (rows.type_ref_row row.now)) writer.old writer.new }
+#[tactic(auto, unfolding(metadata_tables::specs::Columns::columns_of))]
+fn put_module(writer: &mut Writer, source: &Module)
+    ensures { Puts (row_cells 0x00 (rows.module_row source.now)) writer.old writer.new }
 {
-    writer.number(Column::Coded(CodedIndex::ResolutionScope), row.scope);
-    put_text(writer, &row.name);
-    put_text(writer, &row.space);
+    let (name, none) = (Held::Text(&source.name), Held::Number(0));
+    put_row(
+        writer,
+        table::MODULE,
+        &[Held::Half(0), name, none, none, none],
+    );
+}
+
+#[tactic(auto, unfolding(metadata_tables::specs::Columns::columns_of))]
+fn put_assembly(writer: &mut Writer, source: &Module)
+    ensures { Puts (row_cells 0x20 (rows.assembly_row source.now)) writer.old writer.new }
+{
+    let cells = [
+        Held::Number(0),
+        Held::Half(source.version.major),
+        Held::Half(source.version.minor),
+        Held::Half(source.version.build),
+        Held::Half(source.version.revision),
+        Held::Number(0),
+        Held::NoBytes,
+        Held::Text(&source.name),
+        Held::NoText,
+    ];
+    put_row(writer, table::ASSEMBLY, &cells);
 }
 
 fn put_types(writer: &mut Writer, types: &[TypeRow])
@@ -114,15 +248,19 @@ fn put_types(writer: &mut Writer, types: &[TypeRow])
 }
 
 /// Puts a type whose fields and methods begin at these rows.
+#[tactic(auto, unfolding(metadata_tables::specs::Columns::columns_of))]
 fn put_type(writer: &mut Writer, row: &TypeRow, field: u32, method: u32)
     ensures { Puts (row_cells 0x02 (rows.type_row row.now field method)) writer.old writer.new }
 {
-    writer.number(Column::U32, row.flags);
-    put_text(writer, &row.name);
-    put_text(writer, &row.space);
-    writer.number(Column::Coded(CodedIndex::TypeDefOrRef), row.parent);
-    writer.number(Column::Run(FIELD), field);
-    writer.number(Column::Run(METHOD_DEF), method);
+    let cells = [
+        Held::Number(row.flags),
+        Held::Text(&row.name),
+        Held::Text(&row.space),
+        Held::Number(row.parent),
+        Held::Number(field),
+        Held::Number(method),
+    ];
+    put_row(writer, table::TYPE_DEF, &cells);
 }
 
 fn put_fields(writer: &mut Writer, types: &[TypeRow])
@@ -130,25 +268,8 @@ fn put_fields(writer: &mut Writer, types: &[TypeRow])
         writer.old writer.new }
 {
     for row in types {
-        put_fields_of(writer, row.fields.items());
+        put_all(writer, row.fields.items());
     }
-}
-
-/// Puts the fields of a type.
-fn put_fields_of(writer: &mut Writer, fields: &[FieldRow])
-    ensures { Puts (table_cells 0x04 (map rows.field_row fields.now)) writer.old writer.new }
-{
-    for row in fields {
-        put_field(writer, row);
-    }
-}
-
-fn put_field(writer: &mut Writer, row: &FieldRow)
-    ensures { Puts (row_cells 0x04 (rows.field_row row.now)) writer.old writer.new }
-{
-    put_half(writer, row.flags);
-    put_text(writer, &row.name);
-    put_blob(writer, &row.sig);
 }
 
 fn put_methods(writer: &mut Writer, types: &[TypeRow])
@@ -183,92 +304,19 @@ fn put_method(writer: &mut Writer, row: &MethodRow, param: u32)
     put_method_cells(writer, row, rva, param);
 }
 
+#[tactic(auto, unfolding(metadata_tables::specs::Columns::columns_of))]
 fn put_method_cells(writer: &mut Writer, row: &MethodRow, rva: u32, param: u32)
     ensures { Puts (row_cells 0x06 (rows.method_row row.now rva param)) writer.old writer.new }
 {
-    writer.number(Column::U32, rva);
-    put_half(writer, row.impl_flags);
-    put_half(writer, row.flags);
-    put_text(writer, &row.name);
-    put_blob(writer, &row.sig);
-    writer.number(Column::Run(PARAM), param);
-}
-
-fn put_members(writer: &mut Writer, members: &[MemberRow])
-    ensures { Puts (table_cells 0x0A (map rows.member_row members.now)) writer.old writer.new }
-{
-    for row in members {
-        put_member(writer, row);
-    }
-}
-
-fn put_member(writer: &mut Writer, row: &MemberRow)
-    ensures { Puts (row_cells 0x0A (rows.member_row row.now)) writer.old writer.new }
-{
-    writer.number(Column::Coded(CodedIndex::MemberRefParent), row.class);
-    put_text(writer, &row.name);
-    put_blob(writer, &row.sig);
-}
-
-fn put_specs(writer: &mut Writer, specs: &[Listed<u8>])
-    ensures { Puts (table_cells 0x1B (map rows.spec_row specs.now)) writer.old writer.new }
-{
-    for sig in specs {
-        put_spec(writer, sig);
-    }
-}
-
-fn put_spec(writer: &mut Writer, sig: &Listed<u8>)
-    ensures { Puts (row_cells 0x1B (rows.spec_row sig.now)) writer.old writer.new }
-{
-    put_blob(writer, sig);
-}
-
-fn put_assembly(writer: &mut Writer, source: &Module)
-    ensures { Puts (row_cells 0x20 (rows.assembly_row source.now)) writer.old writer.new }
-{
-    writer.number(Column::U32, 0);
-    put_half(writer, source.version.major);
-    put_half(writer, source.version.minor);
-    put_half(writer, source.version.build);
-    put_half(writer, source.version.revision);
-    writer.number(Column::U32, 0);
-    writer.blob(&[]);
-    put_text(writer, &source.name);
-    writer.text("");
-}
-
-fn put_references(alloc: Global, writer: &mut Writer, references: &[AssemblyRef])
-    ensures { Puts (table_cells 0x23 (map rows.reference_row references.now))
-        writer.old writer.new }
-{
-    for row in references {
-        put_reference(alloc, writer, row);
-    }
-}
-
-fn put_reference(alloc: Global, writer: &mut Writer, row: &AssemblyRef)
-    ensures { Puts (row_cells 0x23 (rows.reference_row row.now)) writer.old writer.new }
-{
-    put_half(writer, row.version.major);
-    put_half(writer, row.version.minor);
-    put_half(writer, row.version.build);
-    put_half(writer, row.version.revision);
-    writer.number(Column::U32, 0);
-    writer.blob(&[]);
-    put_name(alloc, writer, &row.name);
-    writer.text("");
-    writer.blob(&[]);
-}
-
-/// Puts the name of a reference.
-fn put_name(alloc: Global, writer: &mut Writer, name: &SimpleName)
-    ensures { Puts ((Strings, cell.Text (bytes_of name.now)) ∷ []) writer.old writer.new }
-{
-    match String::from_utf16_lossy(alloc, name.units().units()) {
-        Ok(text) => writer.text(text.as_str()),
-        Err(_) => writer.failed = true,
-    }
+    let cells = [
+        Held::Number(rva),
+        Held::Half(row.impl_flags),
+        Held::Half(row.flags),
+        Held::Text(&row.name),
+        Held::Bytes(&row.sig),
+        Held::Number(param),
+    ];
+    put_row(writer, table::METHOD_DEF, &cells);
 }
 
 /// Puts the rows that a module gives of a table as cells.
@@ -278,47 +326,52 @@ fn put_given(writer: &mut Writer, given: &[(u8, Listed<Cell>)], table: u8)
 {
     for row in given {
         if row.0 == table {
-            put_row(writer, table, row.1.items());
+            put_given_row(writer, table, row.1.items());
         }
     }
 }
 
-fn put_row(writer: &mut Writer, table: u8, cells: &[Cell])
+fn put_given_row(writer: &mut Writer, table: u8, cells: &[Cell])
     requires { has_fitting (table, cells.now) ≡ true }
     ensures { Puts (row_cells table cells.now) writer.old writer.new }
 {
     let columns = columns(table);
     for k in 0..cells.len() {
-        put_cell(writer, columns[k], &cells[k]);
+        put_cell(writer, columns[k], Held::of(&cells[k]));
     }
 }
 
-fn put_cell(writer: &mut Writer, column: Column, cell: &Cell)
-    requires { fits column cell.now ≡ true }
-    ensures { Puts ((column, cell.now) ∷ []) writer.old writer.new }
+fn put_row(writer: &mut Writer, table: u8, cells: &[Held<'_>])
+    requires { are_fitting (columns_of table) cells.now ≡ true }
+    ensures { Puts (row_cells table (map cell_of cells.now)) writer.old writer.new }
+{
+    let columns = columns(table);
+    for k in 0..cells.len() {
+        put_cell(writer, columns[k], cells[k]);
+    }
+}
+
+fn put_cell(writer: &mut Writer, column: Column, cell: Held<'_>)
+    requires { fits_in column cell ≡ true }
+    ensures { Puts ((column, cell_of cell.entry) ∷ []) writer.old writer.new }
 {
     match cell {
-        Cell::Number(value) => writer.number(column, *value),
-        Cell::Text(text) => put_text(writer, text),
-        Cell::Bytes(bytes) => put_blob(writer, bytes),
+        Held::Half(value) => writer.number(column, u32::from(value)),
+        Held::Number(value) => writer.number(column, value),
+        Held::Text(text) => writer.text(text.as_str()),
+        Held::Name(name) => put_name(writer, name),
+        Held::Bytes(bytes) => writer.blob(bytes.items()),
+        Held::NoText => writer.text(""),
+        Held::NoBytes => writer.blob(&[]),
     }
 }
 
-/// Puts a number of two bytes.
-fn put_half(writer: &mut Writer, value: u16)
-    ensures { Puts ((U16, cell.Number value) ∷ []) writer.old writer.new }
+/// Puts a text in UTF-16.
+fn put_name(writer: &mut Writer, name: &SimpleName)
+    ensures { Puts ((Strings, cell.Text (bytes_of name.now)) ∷ []) writer.old writer.new }
 {
-    writer.number(Column::U16, u32::from(value));
-}
-
-fn put_text(writer: &mut Writer, text: &Text)
-    ensures { Puts ((Strings, cell.Text text.now) ∷ []) writer.old writer.new }
-{
-    writer.text(text.as_str());
-}
-
-fn put_blob(writer: &mut Writer, bytes: &Listed<u8>)
-    ensures { Puts ((Blob, cell.Bytes bytes.now) ∷ []) writer.old writer.new }
-{
-    writer.blob(bytes.items());
+    match String::from_utf16_lossy(writer.alloc, name.units().units()) {
+        Ok(text) => writer.text(text.as_str()),
+        Err(_) => writer.failed = true,
+    }
 }

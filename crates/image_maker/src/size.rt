@@ -1,16 +1,15 @@
 //! How large the image of a module may get.
-ghost use Rattle.std.specs.Prelude.{◌≡◌, ◌+◌, ◌-◌, ◌^◌, [], ◌∷◌, length, min, map};
+ghost use Rattle.std.specs.Prelude.{◌≡◌, ◌+◌, ◌-◌, ◌^◌, [], ◌∷◌, length, min, map, sum};
 ghost use Rattle.std.specs.List.{sum_by, flat_map};
 ghost use Rattle.image_maker.specs.Size as spec;
 ghost use Rattle.image_maker.specs.Sound.{all_texts};
 ghost use Rattle.image_maker.specs.Tally.{Adds, empty, method_bytes, module_bytes};
 
-use crate::counts::TABLES;
-use crate::listed::Listed;
+use crate::counts::{field_count, method_count};
 use crate::module::{Cell, FieldRow, MemberRow, MethodRow, Module, TypeRefRow, TypeRow};
 use crate::tally::{Counted, Tally, count_all};
-use crate::text::Text;
 use assembly_name::AssemblyRef;
+use cli_words::{Listed, Utf8Text};
 
 /// What headers and padding may take.
 const HEADERS: u64 = 8192;
@@ -28,7 +27,8 @@ const BODY: u64 = 3;
 const STREAM: u64 = 64;
 
 impl Module {
-    /// A bound on the length of the module's image, at most `u64::MAX`.
+    /// A bound on the length of the module's image in bytes, at most `u64::MAX`. It speaks of every
+    /// module: a row counts, too, that is given for a table that a module may not have.
     pub fn size(&self) -> u64
         ensures { result ≡ min (spec.size_of self.now) (2 ^ 64 - 1) }
     {
@@ -40,11 +40,18 @@ impl Module {
     fn row_total(&self) -> u64
         ensures { result ≡ min (spec.row_count self.now) (2 ^ 64 - 1) }
     {
-        let mut total: u64 = 0;
-        for table in 0..TABLES {
-            total = total.saturating_add(self.count(table));
-        }
-        total
+        let types = self.types.items();
+        sum_of(&[
+            2,
+            len_of(&self.refs),
+            len_of(&self.type_refs),
+            len_of(&self.types),
+            field_count(types),
+            method_count(types),
+            len_of(&self.members),
+            len_of(&self.specs),
+            len_of(&self.rows),
+        ])
     }
 
     /// What is counted of the module's texts and bytes.
@@ -66,6 +73,22 @@ impl Module {
         tally.blob(self.guids.items(), 0);
         tally
     }
+}
+
+fn len_of<T>(list: &Listed<T>) -> u64
+    ensures { result ≡ length list.now }
+{
+    list.items().len() as u64
+}
+
+fn sum_of(parts: &[u64]) -> u64
+    ensures { result ≡ min (sum parts.now) (2 ^ 64 - 1) }
+{
+    let mut total: u64 = 0;
+    for part in parts {
+        total = total.saturating_add(*part);
+    }
+    total
 }
 
 fn count_fields(types: &[TypeRow], tally: &mut Tally)
@@ -210,7 +233,7 @@ impl Counted for (u8, Listed<Cell>) {
     }
 }
 
-impl Counted for (Text, Listed<u8>) {
+impl Counted for (Utf8Text, Listed<u8>) {
     ghost use Rattle.std.specs.Prelude.{[], ◌+◌, length};
 
     ghost texts = { λ _. [] };

@@ -17,14 +17,11 @@ ghost use Rattle.image_maker.specs.Params.{are_within, left_of};
 ghost use Rattle.image_maker.specs.Tally.{Tells, layout_of, given_count};
 
 use crate::counts::TABLES;
-use crate::listed::Listed;
 use crate::module::{Cell, MethodRow, Module, TypeRow};
-use crate::text::Text;
 use crate::units::is_whole;
 use assembly_name::AssemblyRef;
-use metadata_tables::{CodedIndex, Column, columns};
-
-const PARAM: u8 = 0x08;
+use cli_words::{Listed, Utf8Text};
+use metadata_tables::{CodedIndex, Column, columns, table};
 
 /// The bytes of an entry of a GUID heap.
 const GUID_LEN: u64 = 16;
@@ -71,11 +68,12 @@ impl Module {
         ensures { result ≡ spec.is_table_sound self.now table }
     {
         match table {
-            0x00 | 0x04 | 0x1B | 0x20 | 0x23 => true,
-            0x01 => self.are_scopes_sound(counts),
-            0x02 => self.are_parents_sound(counts),
-            0x06 => self.are_params_sound(),
-            0x0A => self.are_classes_sound(counts),
+            table::MODULE | table::FIELD | table::TYPE_SPEC => true,
+            table::ASSEMBLY | table::ASSEMBLY_REF => true,
+            table::TYPE_REF => self.are_scopes_sound(counts),
+            table::TYPE_DEF => self.are_parents_sound(counts),
+            table::METHOD_DEF => self.are_params_sound(),
+            table::MEMBER_REF => self.are_classes_sound(counts),
             _ => self.are_given_sound(counts, table),
         }
     }
@@ -120,7 +118,7 @@ impl Module {
     fn are_params_sound(&self) -> bool
         ensures { result ≡ are_within (given_count 8 self.now.rows) 0 (all_methods self.now) }
     {
-        are_types_within(Some(self.given_count(PARAM)), self.types.items())
+        are_types_within(Some(self.given_count(table::PARAM)), self.types.items())
     }
 
     fn are_given_sound(&self, counts: &[u64; 45], table: u8) -> bool
@@ -191,7 +189,7 @@ impl Module {
             (layout_of self.now) column value }
     {
         match column {
-            Column::U8 | Column::U16 | Column::U32 | Column::Run(_) => true,
+            Column::U8 | Column::U16 | Column::U32 | Column::List(_) => true,
             Column::Strings => false,
             Column::Blob => value == 0,
             Column::Guid => GUID_LEN * u64::from(value) <= self.guids.items().len() as u64,
@@ -214,7 +212,7 @@ fn is_in_order(counts: &[u64; 45], column: Column, before: u32, value: u32) -> b
         → result ≡ checks.is_in_order (layout_of m) column before value }
 {
     match column {
-        Column::Run(table) => {
+        Column::List(table) => {
             let is_near = u64::from(value) <= count_in(counts, table).saturating_add(1);
             1 <= value && is_near && before <= value
         }
@@ -364,7 +362,7 @@ fn are_whole(refs: &[AssemblyRef]) -> bool
     refs.iter().all(|row| is_whole(row.name.units().units()))
 }
 
-fn are_stream_names(streams: &[(Text, Listed<u8>)]) -> bool
+fn are_stream_names(streams: &[(Utf8Text, Listed<u8>)]) -> bool
     ensures { result ≡ list_all (λ s. spec.is_stream_name s.0) streams.now }
 {
     streams

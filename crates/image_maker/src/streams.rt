@@ -6,8 +6,7 @@ ghost use Rattle.image_maker.specs.File.{zeros, round_up, padded, stream_header,
 ghost use Rattle.image_maker.specs.File.{headers_len, root_bytes, known_parts, long};
 ghost use Rattle.image_maker.specs.File.{tables_bytes, present, bits_of};
 
-use crate::listed::Listed;
-use crate::text::Text;
+use cli_words::{Listed, Utf8Text};
 use std::alloc::{AllocError, Global};
 
 // The root up to the count of its streams: the signature, the versions, four reserved bytes, the
@@ -35,7 +34,7 @@ pub(crate) fn write_root(
     user_strings: &[u8],
     guids: &[u8],
     blobs: &[u8],
-    further: &[(Text, Listed<u8>)],
+    further: &[(Utf8Text, Listed<u8>)],
 ) -> Result<Vec<u8>, AllocError>
     requires few { length (known_parts tables.now strings.now user_strings.now guids.now blobs.now
         ++ further.now) < 2 ^ 16 }
@@ -239,7 +238,7 @@ fn header_len(name: &[u8]) -> usize
 }
 
 // How many bytes the headers of streams take.
-fn headers_len_of(streams: &[(Text, Listed<u8>)]) -> usize
+fn headers_len_of(streams: &[(Utf8Text, Listed<u8>)]) -> usize
     requires { headers_len streams.now < 2 ^ 31 }
     ensures { result ≡ headers_len streams.now }
 {
@@ -254,7 +253,7 @@ fn headers_len_of(streams: &[(Text, Listed<u8>)]) -> usize
 fn put_headers(
     out: &mut Vec<u8>,
     first: usize,
-    streams: &[(Text, Listed<u8>)],
+    streams: &[(Utf8Text, Listed<u8>)],
 ) -> Result<(), AllocError>
     requires names { headers_len streams.now < 2 ^ 31 }
     requires places { first + sum_by (λ s. round_up 4 (length s.1)) streams.now < 2 ^ 31 }
@@ -268,7 +267,7 @@ fn put_headers(
 }
 
 // Puts streams.
-fn put_streams(out: &mut Vec<u8>, streams: &[(Text, Listed<u8>)]) -> Result<(), AllocError>
+fn put_streams(out: &mut Vec<u8>, streams: &[(Utf8Text, Listed<u8>)]) -> Result<(), AllocError>
     ensures { OnOk result
         (out.new.items ≡ out.old.items ++ flat_map (λ s. padded 4 s.1) streams.now) }
 {

@@ -6,8 +6,8 @@ ghost use Rattle.image_maker.specs.Sound as spec;
 ghost use Rattle.image_maker.specs.Tally.{Adds, empty, most};
 ghost use Rattle.image_maker.specs.Size.{name_limit};
 
-use crate::text::Text;
 use crate::units::{has_no_zero, utf8_len};
+use cli_words::Utf8Text;
 
 /// The most bytes of a name.
 const NAME_LIMIT: u64 = 1023;
@@ -59,7 +59,7 @@ impl Tally {
     }
 
     /// Counts a text.
-    pub(crate) fn text(&mut self, text: &Text)
+    pub(crate) fn text(&mut self, text: &Utf8Text)
         ensures { Adds (text.now ∷ []) 0 self.old self.new }
     {
         let bytes = text.as_str().as_bytes();

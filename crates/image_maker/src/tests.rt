@@ -1,3 +1,2 @@
 mod limits;
 mod made;
-mod parts;

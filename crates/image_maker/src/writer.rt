@@ -19,6 +19,7 @@ const BODIES_ADDRESS: usize = 0x2048;
 /// Once it lacked memory, it has failed for good, and what it holds is nothing to go by.
 #[derive(Drop)]
 pub(crate) struct Writer {
+    pub(crate) alloc: Global,
     pub(crate) layout: Layout,
     pub(crate) rows: Vec<u8>,
     pub(crate) strings: Vec<u8>,
@@ -34,6 +35,7 @@ impl Writer {
         ensures holds { Holds [] [] result }
     {
         let mut writer = Writer {
+            alloc,
             layout,
             rows: Vec::new(alloc),
             strings: Vec::new(alloc),

@@ -1,90 +1,108 @@
-use super::parts::{Given, class, field, image, limit, list, repeated, row, type_ref, zeros};
-use crate::{Module, SampleName, Text, TypeRow, sample};
+use crate::{Cell, FieldRow, MakeFault, Module, SampleName, TypeRefRow, TypeRow, make, sample};
+use cli_words::{Listed, Utf8Text};
+use metadata_tables::table;
 use std::alloc::{AllocError, Global};
+use std::process::Abort;
 use std::test::Fail;
 
-/// A type with so many fields.
-fn owner(alloc: Global, fields: usize) -> Result<TypeRow, AllocError> {
-    let fields = list(alloc, fields, || field(alloc, "f"))?;
-    class(alloc, 0, "", "T", fields.into_vec(), Vec::new(alloc))
+fn text(alloc: Global, text: &str) -> Result<Utf8Text, AllocError> {
+    Ok(Utf8Text::of(String::from_str(alloc, text)?))
 }
 
-/// Lib1 with so many rows of TypeRef, Field and Param.
-fn with_rows(
+fn bytes(alloc: Global, bytes: &[u8]) -> Result<Listed<u8>, AllocError> {
+    Ok(Listed::of(bytes.to_vec(alloc)?))
+}
+
+fn type_refs(alloc: Global, count: u32) -> Result<Listed<TypeRefRow>, AllocError> {
+    let mut rows = Vec::new(alloc);
+    for _ in 0..count {
+        rows.push(TypeRefRow {
+            scope: 0,
+            name: text(alloc, "R")?,
+            space: text(alloc, "")?,
+        })?;
+    }
+    Ok(Listed::of(rows))
+}
+
+fn fields(alloc: Global, count: u32) -> Result<Listed<FieldRow>, AllocError> {
+    let mut rows = Vec::new(alloc);
+    for _ in 0..count {
+        rows.push(FieldRow {
+            flags: 0x10,
+            name: text(alloc, "f")?,
+            sig: bytes(alloc, &[0x06, 0x08])?,
+        })?;
+    }
+    Ok(Listed::of(rows))
+}
+
+/// A type with so many fields.
+fn owner(alloc: Global, count: u32) -> Result<TypeRow, AllocError> {
+    Ok(TypeRow {
+        flags: 0,
+        name: text(alloc, "T")?,
+        space: text(alloc, "")?,
+        parent: 0,
+        fields: fields(alloc, count)?,
+        methods: Listed::of(Vec::new(alloc)),
+    })
+}
+
+fn params(alloc: Global, count: u32) -> Result<Listed<(u8, Listed<Cell>)>, AllocError> {
+    let mut rows = Vec::new(alloc);
+    for _ in 0..count {
+        let name = Cell::Text(text(alloc, "p")?);
+        let cells = vec![in alloc; Cell::Number(0), Cell::Number(0), name]?;
+        rows.push((table::PARAM, Listed::of(cells)))?;
+    }
+    Ok(Listed::of(rows))
+}
+
+/// A module with so many rows of TypeRef, Field and Param, and a name and a heap of user strings
+/// of so many bytes.
+fn grown(
     alloc: Global,
-    type_refs: usize,
-    fields: usize,
-    params: usize,
+    rows: [u32; 3],
+    name: usize,
+    user_strings: usize,
 ) -> Result<Module, AllocError> {
     let mut source = sample(alloc, SampleName::Lib1)?;
-    let param: &[Given] = &[Given::Number(0), Given::Number(0), Given::Text("p")];
-    source.type_refs = list(alloc, type_refs, || type_ref(alloc, 0, "", "R"))?;
-    source.types = list(alloc, 1, || owner(alloc, fields))?;
-    source.rows = list(alloc, params, || row(alloc, 0x08, param))?;
+    source.type_refs = type_refs(alloc, rows[0])?;
+    source.types = Listed::of(vec![in alloc; owner(alloc, rows[1])?]?);
+    source.rows = params(alloc, rows[2])?;
+    source.name = Utf8Text::of("n".repeat(alloc, name)?);
+    source.user_strings = Listed::of(vec![in alloc; 0; user_strings]?);
     Ok(source)
 }
 
-/// The least table of which there are more than 65,534 rows.
-#[test]
-fn limits_rows(rt: HostRuntime) -> Result<(), Fail> {
-    for (type_refs, fields, params, what) in [
-        (1, 65_535, 1, 0x04),
-        (65_535, 65_535, 1, 0x01),
-        (1, 1, 65_535, 0x08),
-        (1, 70_000, 65_535, 0x04),
-    ] {
-        let source = with_rows(rt.alloc(), type_refs, fields, params)?;
-        assert_eq!(rt; limit(&rt, rt.alloc(), &source)?, Some(what));
+/// The limit that a sound module passes, if there is one.
+fn limit(rt: &impl Abort, alloc: Global, source: &Module) -> Result<Option<u8>, Fail> {
+    assert!(rt; source.sound());
+    match make(alloc, source) {
+        Ok(_) => Ok(None),
+        Err(MakeFault::Limit { what }) => Ok(Some(what)),
+        Err(MakeFault::OutOfMemory) => Err(Fail::new("out of memory")),
     }
-    Ok(())
 }
 
+/// Which limit a module passes: the least table, then a name, then the size. One with these rows
+/// and a name of 1,023 bytes takes 9,543 bytes without its user strings.
 #[test]
-fn makes_the_most_fields(rt: HostRuntime) -> Result<(), Fail> {
-    let made = image(&rt, rt.alloc(), &with_rows(rt.alloc(), 1, 65_534, 1)?)?;
-    assert_eq!(rt; made.fields(), 65_534);
-    assert_eq!(rt; made.text(0x04, 65_534, 1), "f");
-    Ok(())
-}
-
-#[test]
-fn makes_the_longest_name(rt: HostRuntime) -> Result<(), Fail> {
-    let mut source = sample(rt.alloc(), SampleName::Lib1)?;
-    source.name = Text::of(repeated(rt.alloc(), "n", 1_023)?);
-    let made = image(&rt, rt.alloc(), &source)?;
-    assert_eq!(rt; made.text(0x20, 1, 7).len(), 1_023);
-    Ok(())
-}
-
-/// Which limit is told where a module passes several.
-#[test]
-fn tells_the_least_limit(rt: HostRuntime) -> Result<(), Fail> {
-    let alloc = rt.alloc();
-    for (fields, name, user_strings, what) in [
-        (65_535, 1_024, 5_000_000, Some(0x04)),
-        (1, 1_024, 5_000_000, Some(0xFE)),
-        (1, 1_024, 1, Some(0xFE)),
-        (1, 1_023, 5_000_000, Some(0xFF)),
-        (1, 1_023, 1, None),
+fn limits(rt: HostRuntime) -> Result<(), Fail> {
+    for (rows, name, user_strings, what) in [
+        ([65_534, 65_534, 1], 1, 0, Some(0xFF)),
+        ([1, 65_534, 1], 1, 0, None),
+        ([1, 65_535, 1], 1_024, 5_000_000, Some(0x04)),
+        ([65_535, 65_535, 1], 1, 0, Some(0x01)),
+        ([1, 1, 65_535], 1, 0, Some(0x08)),
+        ([1, 1, 1], 1_024, 5_000_000, Some(0xFE)),
+        ([1, 1, 1], 1_023, 5_000_000, Some(0xFF)),
+        ([1, 1, 1], 1_023, 4_184_761, None),
+        ([1, 1, 1], 1_023, 4_184_762, Some(0xFF)),
     ] {
-        let mut source = with_rows(alloc, 1, fields, 1)?;
-        source.name = Text::of(repeated(alloc, "n", name)?);
-        source.user_strings = zeros(alloc, user_strings)?;
-        assert_eq!(rt; limit(&rt, alloc, &source)?, what);
+        let source = grown(rt.alloc(), rows, name, user_strings)?;
+        assert_eq!(rt; limit(&rt, rt.alloc(), &source)?, what);
     }
-    Ok(())
-}
-
-/// Lib1 takes 8,554 bytes without its user strings.
-#[test]
-fn limits_the_size(rt: HostRuntime) -> Result<(), Fail> {
-    let mut source = sample(rt.alloc(), SampleName::Lib1)?;
-    source.user_strings = zeros(rt.alloc(), 4_194_304 - 8_554)?;
-    assert_eq!(rt; source.size(), 4_194_304);
-    let made = image(&rt, rt.alloc(), &source)?;
-    assert_eq!(rt; made.root().user_strings.len, 4_194_304 - 8_554);
-    source.user_strings = zeros(rt.alloc(), 4_194_304 - 8_553)?;
-    assert_eq!(rt; source.size(), 4_194_305);
-    assert_eq!(rt; limit(&rt, rt.alloc(), &source)?, Some(0xFF));
     Ok(())
 }

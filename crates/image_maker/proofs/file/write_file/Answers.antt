@@ -1,6 +1,6 @@
 use Rattle.std.proofs.Common.{◌≡◌, ℕ, ◌+◌, ◌-◌, List, [], ◌++◌, length, refl, sym, ap, ◌∙◌, append_assoc}
 use Rattle.std.specs.List.{flat_map}
-use Rattle.image_maker.specs.Field.{field_bytes}
+use Rattle.image_maker.specs.Headers.{piece_bytes}
 use Rattle.image_maker.specs.File.{round_up, file_headers, cli_header, text_bytes, file_bytes, bodies_address, zeros}
 use Rattle.image_maker.proofs.LengthFile.{text_length}
 use Rattle.image_maker.proofs.file.write_file.Goals as goal
@@ -34,10 +34,10 @@ module _ (headers cli bodies metadata pad end empty : List ℕ) (none : empty �
 pub returns : goal.returns
 returns c =
     whole (file_headers _) (cli_header _ _) c.args.bodies.now c.args.metadata.now (zeros _) (zeros 1024)
-    c.new-file.result.items c.new-file.ensures.items c.put_fields.new.file.items c.put_fields-2.new.file.items
+    c.new-file.result.items c.new-file.ensures.items c.put_pieces.new.file.items c.put_pieces-2.new.file.items
     c.extend_from_slice.new.self.items c.extend_from_slice-2.new.self.items c.put_zeros.new.file.items
-    c.put_zeros-2.new.file.items (flat_map field_bytes c.headers.result) (flat_map field_bytes c.cli_header.result)
-    c.in_ok-put_fields.ensures c.headers.ensures c.in_ok-put_fields-2.ensures c.cli_header.ensures
+    c.put_zeros-2.new.file.items (flat_map piece_bytes c.headers.result) (flat_map piece_bytes c.cli_header.result)
+    c.in_ok-put_pieces.ensures c.headers.ensures c.in_ok-put_pieces-2.ensures c.cli_header.ensures
     c.in_ok-extend_from_slice.ensures.items c.in_ok-extend_from_slice-2.ensures.items
     c.in_ok-put_zeros.ensures c.in_ok-put_zeros-2.ensures
     ∙ spelled c.args.bodies.now c.args.metadata.now _ c.round_up.result refl c.round_up.ensures

@@ -13,9 +13,9 @@ pub loop-row-preserved : goal.loop-row-preserved
 loop-row-preserved c =
     lists_next 0x04 field_row (λ t. t.fields) _ c.args.types.now c.loop-row.row-index c.row-item.result
     c.args.writer.now
-    c.loop-row.writer c.put_fields_of.new.writer c.loop-row-test.true c.row-item.is c.loop-row.invariant
-    (subst (λ fields. Puts (table_cells 0x04 (map field_row fields)) c.loop-row.writer c.put_fields_of.new.writer)
-    c.items.ensures c.put_fields_of.ensures)
+    c.loop-row.writer c.put_all.new.writer c.loop-row-test.true c.row-item.is c.loop-row.invariant
+    (subst (λ fields. Puts (table_cells 0x04 (map field_row fields)) c.loop-row.writer c.put_all.new.writer)
+    c.items.ensures c.put_all.ensures)
 
 pub returns : goal.returns
 returns c =

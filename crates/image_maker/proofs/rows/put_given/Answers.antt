@@ -22,11 +22,11 @@ loop-row-preserved c =
     elim c.if-row-table.branch as (λ _. Left all more first c.if-row-table.writer) [
       | then-row-table w ↦
           let same : (item.0 == table) ≡ true = grind (arith, nat_tests) in
-          let told : Puts (row_cells table item.1) c.loop-row.writer w.put_row.new.writer =
-          subst (λ cells. Puts (row_cells table cells) c.loop-row.writer w.put_row.new.writer) w.items.ensures
-          w.put_row.ensures in
+          let told : Puts (row_cells table item.1) c.loop-row.writer w.put_given_row.new.writer =
+          subst (λ cells. Puts (row_cells table cells) c.loop-row.writer w.put_given_row.new.writer) w.items.ensures
+          w.put_given_row.ensures in
           subst (Left all more first) (sym w.writer-is)
-          (given_next table all given i item first c.loop-row.writer w.put_row.new.writer c.loop-row-test.true
+          (given_next table all given i item first c.loop-row.writer w.put_given_row.new.writer c.loop-row-test.true
           c.row-item.is
           same c.loop-row.invariant told)
       | else-row-table w ↦

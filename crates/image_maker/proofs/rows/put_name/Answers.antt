@@ -8,4 +8,4 @@ use Rattle.image_maker.proofs.rows.put_name.Goals as goal
 pub returns-in-Ok : goal.returns-in-Ok
 returns-in-Ok c =
     subst (λ v. Puts ((Strings, Text v) ∷ []) c.args.writer.now c.text.new.self)
-    (c.as_str.ensures.value ∙ c.in-Ok.ensures ∙ ap bytes_of (c.units-2.ensures ∙ c.units.ensures)) c.text.ensures
+    (c.as_str.ensures.value ∙ c.in-Ok.ensures ∙ ap bytes_of (c.units-2.ensures.units ∙ c.units.ensures)) c.text.ensures

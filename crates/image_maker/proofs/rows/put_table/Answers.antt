@@ -18,9 +18,9 @@ returns-in-0 c rva =
 pub returns-in-1 : goal.returns-in-1
 returns-in-1 c rva =
     let old = c.args.writer.now in
-    let new = c.put_type_refs.new.writer in
+    let new = c.put_all.new.writer in
     puts_table c.args.source.now rva c.args.table 0x01 old new c.in-1.is
-    (subst (λ xs. Puts (table_cells 0x01 (map type_ref_row xs)) old new) c.items.ensures c.put_type_refs.ensures)
+    (subst (λ xs. Puts (table_cells 0x01 (map type_ref_row xs)) old new) c.items.ensures c.put_all.ensures)
 
 pub returns-in-2 : goal.returns-in-2
 returns-in-2 c rva =
@@ -40,16 +40,16 @@ returns-in-4 c rva =
 pub returns-in-10 : goal.returns-in-10
 returns-in-10 c rva =
     let old = c.args.writer.now in
-    let new = c.put_members.new.writer in
+    let new = c.put_all-in-10.new.writer in
     puts_table c.args.source.now rva c.args.table 0x0A old new c.in-10.is
-    (subst (λ xs. Puts (table_cells 0x0A (map member_row xs)) old new) c.items-in-10.ensures c.put_members.ensures)
+    (subst (λ xs. Puts (table_cells 0x0A (map member_row xs)) old new) c.items-in-10.ensures c.put_all-in-10.ensures)
 
 pub returns-in-27 : goal.returns-in-27
 returns-in-27 c rva =
     let old = c.args.writer.now in
-    let new = c.put_specs.new.writer in
+    let new = c.put_all-in-27.new.writer in
     puts_table c.args.source.now rva c.args.table 0x1B old new c.in-27.is
-    (subst (λ xs. Puts (table_cells 0x1B (map spec_row xs)) old new) c.items-in-27.ensures c.put_specs.ensures)
+    (subst (λ xs. Puts (table_cells 0x1B (map spec_row xs)) old new) c.items-in-27.ensures c.put_all-in-27.ensures)
 
 pub returns-in-32 : goal.returns-in-32
 returns-in-32 c rva =
@@ -61,10 +61,10 @@ returns-in-32 c rva =
 pub returns-in-35 : goal.returns-in-35
 returns-in-35 c rva =
     let old = c.args.writer.now in
-    let new = c.put_references.new.writer in
+    let new = c.put_all-in-35.new.writer in
     puts_table c.args.source.now rva c.args.table 0x23 old new c.in-35.is
     (subst (λ xs. Puts (table_cells 0x23 (map reference_row xs)) old new) c.items-in-35.ensures
-    c.put_references.ensures)
+    c.put_all-in-35.ensures)
 
 pub returns-in_default : goal.returns-in_default
 returns-in_default c rva =

@@ -6,8 +6,8 @@ use Rattle.image_maker.proofs.units.utf8_len.Goals as goal
 pub loop-rest-preserved : goal.loop-rest-preserved
 loop-rest-preserved c = (
   omega (arith, c.saturating_add-len.ensures),
-  len_kept c.args.units.now c.loop-rest.rest.now _ c.first-character.result c.first-character.ensures
-      (take_rest c.loop-rest.rest.now c.first-character.result.1)
+  len_kept c.args.units.now c.loop-rest.rest.now _ c.first_character-character.result c.first_character-character.ensures
+      (take_rest c.loop-rest.rest.now c.first_character-character.result.1)
       c.loop-rest.len _ _ c.saturating_add-len.ensures c.char_len.ensures c.loop-rest.invariant.1,
 )
 

@@ -11,14 +11,16 @@ returns-in-0 c =
       | inl e ↦ sym (ap (is_table_sound m) e ∙ is_00 m)
       | inr f ↦ elim f [
         | inl e ↦ sym (ap (is_table_sound m) e ∙ is_04 m)
-        | inr f ↦ elim f [
-          | inl e ↦ sym (ap (is_table_sound m) e ∙ is_1B m)
-          | inr f ↦ elim f [
-            | inl e ↦ sym (ap (is_table_sound m) e ∙ is_20 m)
-            | inr e ↦ sym (ap (is_table_sound m) e ∙ is_23 m)
-          ]
-        ]
+        | inr e ↦ sym (ap (is_table_sound m) e ∙ is_1B m)
       ]
+    ]
+
+pub returns-in-32 : goal.returns-in-32
+returns-in-32 c =
+    let m = c.args.self.now in
+    elim c.in-32.is [
+      | inl e ↦ sym (ap (is_table_sound m) e ∙ is_20 m)
+      | inr e ↦ sym (ap (is_table_sound m) e ∙ is_23 m)
     ]
 
 pub returns-in-1 : goal.returns-in-1

@@ -1,7 +1,0 @@
-use Rattle.std.proofs.Common.{◌≡◌, map, take}
-use Rattle.image_maker.specs.Samples as samples
-use Rattle.image_maker.proofs.samples.methods.Given as goal
-
-abbrev pub invariant-loop-row : goal.invariant-loop-row
-invariant-loop-row l = l.made.items ≡ map (λ r. samples.method_of r.0 r.1.now r.2.now r.3.now)
-    (take l.row-index l.rows)

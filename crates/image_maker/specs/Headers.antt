@@ -1,0 +1,11 @@
+-- The pieces that headers are written of (own).
+use Rattle.std.specs.Prelude.{ℕ, List}
+use Rattle.image_maker.specs.File.{half, long, zeros}
+use Rattle.image_maker.specs.declared.file.HeaderPiece.{HeaderPiece}
+use Rattle.image_maker.specs.declared.file.HeaderPiece.TheVariants.{Text, Zeros, Half, Long}
+
+abbrev pub piece_bytes : HeaderPiece → List ℕ
+piece_bytes (Text bytes) = bytes.now
+piece_bytes (Zeros count) = zeros count
+piece_bytes (Half value) = half value
+piece_bytes (Long value) = long value
