@@ -1,17 +1,21 @@
 -- Which contexts a collection frees, found number by number.
-use Rattle.std.proofs.Common.{◌≡◌, ℕ, ◌+◌, ◌<◌, ◌≤◌, Bool, true, false, ◌&&◌, cond, List, [], ◌∷◌, ◌++◌, length, get_or, refl, sym, ap, subst, ◌∙◌, inl, inr, arith}
+use Rattle.std.proofs.Common.{◌≡◌, ℕ, ◌+◌, ◌<◌, ◌≤◌, Bool, true, false, ◌&&◌, ◌||◌, cond, List, [], ◌∷◌, ◌++◌, length, get_or, refl, sym, ap, subst, ◌∙◌, inl, inr, arith}
 use Rattle.std.specs.Prelude.{Contains}
+use Rattle.std.specs.List.{list_any}
 use Rattle.std.specs.List.Sorted.{IsStrictlyIncreasing}
 use Rattle.std.proofs.lemmas.Bool.{and_from, and_parts, cases_Bool, cases_lt}
 use Rattle.host_events.proofs.Numbers.{number_of_live}
 use Rattle.std.proofs.lemmas.List.{length_push, get_or_append_left, get_or_push}
 use Rattle.std.proofs.lemmas.List.Elements.{Contains-push, Contains-push_cases, Contains-append_left, Contains-get_or}
+use Rattle.host_events.specs.declared.event.Event.{Event}
+use Rattle.host_events.specs.declared.event.Event.TheVariants.{New, Unload, Collect}
+use Rattle.host_events.specs.declared.reply.Reply.{Reply}
 use Rattle.host_events.specs.declared.journal.Entry.{Entry}
 use Rattle.host_events.specs.Contexts.{is_live, is_unloaded, made_count, IsUnloaded}
 use Rattle.host_events.specs.Journal.{IsLegal}
-use Rattle.host_events.specs.Kept.{HasCause, IsRoot, IsPath, IsEdge}
-use Rattle.host_events.specs.Kept.HasCause.{loaded}
-use Rattle.host_events.specs.Kept.IsPath.{here, along}
+use Rattle.host_events.specs.Reachable.{HasCause, IsRoot, IsPath, IsEdge, makes_edge}
+use Rattle.host_events.specs.Reachable.HasCause.{loaded}
+use Rattle.host_events.specs.Reachable.IsPath.{here, along}
 use Rattle.host_events.specs.Reply.{ListsUnkept}
 
 -- the live contexts below a number that were given up, in rising order
@@ -85,9 +89,20 @@ IsCollectedBelow-more entries n old new false collected is now =
     subst (λ l. IsCollectedBelow entries (n + 1) l) (sym now) kept
 
 -- no entry makes an edge, so a path leads from a context to itself alone
+no_edge_by : (journal : List Entry) (x y : ℕ) (event : Event) (reply : Reply) → makes_edge journal x y event reply ≡ false
+no_edge_by journal x y (New name kind) reply = refl
+no_edge_by journal x y (Unload name) reply = refl
+no_edge_by journal x y Collect reply = refl
+
+no_edge_among : (journal entries : List Entry) (x y : ℕ) →
+    list_any (λ e. makes_edge journal x y e.event e.reply) entries ≡ false
+no_edge_among journal [] x y = refl
+no_edge_among journal (e ∷ es) x y =
+    ap (λ b. b || list_any (λ e. makes_edge journal x y e.event e.reply) es) (no_edge_by journal x y e.event e.reply)
+    ∙ no_edge_among journal es x y
+
 no_edge : (entries : List Entry) (x y : ℕ) → IsEdge entries x y → ⊥
-no_edge [] x y edge = cc
-no_edge (e ∷ es) x y edge = no_edge es x y edge
+no_edge entries x y edge = cc (edge, no_edge_among entries entries x y)
 
 path_here : (entries : List Entry) {x y : ℕ} → IsPath entries x y → x ≡ y
 path_here entries here = refl

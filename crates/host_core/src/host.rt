@@ -30,12 +30,12 @@ impl<C> HostCore<C> {
     ghost use Rattle.host_events.specs.Reply.{IsReply};
     ghost use Rattle.host_core.specs.Accepted.{IsAccepted};
     ghost use Rattle.host_core.specs.Allowed.{IsAllowed};
-    ghost use Rattle.host_core.specs.Bounds.{bounds_of};
+    ghost use Rattle.host_core.specs.Bounds.{bounds_of, most_contexts};
 
     /// A host before its first event.
     pub fn open(alloc: Global, bounds: Bounds) -> Result<HostCore<C>, AllocError>
         requires made_up { bounds ≡ bounds_of bounds.shares }
-        requires numbered { bounds.contexts ≤ 1088 }
+        requires numbered { bounds.contexts ≤ most_contexts }
         ensures { IfOk result (λ host. host ≡ record { bounds = bounds; journal = [] }) }
     {
         let journal = Vec::with_capacity(alloc, bounds.events as usize)?;

@@ -157,7 +157,7 @@ fn answers(alloc: Global, asks: &[(u32, Ask<'_>)]) -> Result<(String, String), F
     }
     let journal = host.into_journal();
     let mut kept = String::new(alloc);
-    for entry in journal.entries() {
+    for entry in journal.items() {
         kept.push_str(text(alloc, entry.thread, &entry.reply)?.as_str())?;
     }
     Ok((told, kept))
@@ -228,7 +228,7 @@ fn contexts_live_and_die(rt: HostRuntime) -> Result<(), Fail> {
 #[test]
 fn a_host_moves_to_a_thread(rt: HostRuntime) -> Result<(), Fail> {
     let host = host_of(rt.alloc(), 1)?;
-    let (entries, _) = thread::join(&rt, move || host.into_journal().entries().len(), || 0);
+    let (entries, _) = thread::join(&rt, move || host.into_journal().items().len(), || 0);
     assert_eq!(rt; entries, 0);
     Ok(())
 }

@@ -1,4 +1,5 @@
 pub mod Numbers
 pub mod Operations
 pub mod Push
+pub mod Replies
 pub mod Rising

@@ -7,18 +7,28 @@ use Rattle.host_events.specs.declared.event.ContextKind.TheVariants.{Collectible
 use Rattle.host_events.specs.declared.event.Event.{Event}
 use Rattle.host_events.specs.declared.event.Event.TheVariants.{New, Unload}
 use Rattle.host_events.specs.declared.reply.Reply.{Reply}
-use Rattle.host_events.specs.declared.reply.Reply.TheVariants.{Made, Unloading, Freed}
+use Rattle.host_events.specs.declared.reply.Reply.TheVariants.{Exists, Made, NoContext, Unloading, Fixed, Already, Freed}
 use Rattle.host_events.specs.declared.journal.Entry.{Entry}
 
 -- the context that a reply says was made
 abbrev pub made_context : Reply → Option ℕ
+made_context (Exists c) = None
 made_context (Made c) = Some c
-made_context _ = None
+made_context NoContext = None
+made_context (Unloading c) = None
+made_context (Fixed c) = None
+made_context (Already c) = None
+made_context (Freed contexts) = None
 
 -- the contexts that a reply says were freed
 abbrev pub freed_contexts : Reply → List ℕ
+freed_contexts (Exists c) = []
+freed_contexts (Made c) = []
+freed_contexts NoContext = []
+freed_contexts (Unloading c) = []
+freed_contexts (Fixed c) = []
+freed_contexts (Already c) = []
 freed_contexts (Freed contexts) = contexts.list
-freed_contexts _ = []
 
 -- the context that a `New` of this name made
 abbrev pub made_under : List ℕ → Event → Reply → Option ℕ

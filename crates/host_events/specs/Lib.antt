@@ -1,7 +1,7 @@
 pub mod Contexts
 pub mod Journal
-pub mod Kept
 pub mod Laws
 pub mod Operations
+pub mod Reachable
 pub mod Reply
 pub mod Reserved

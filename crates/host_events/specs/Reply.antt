@@ -7,7 +7,7 @@ use Rattle.host_events.specs.declared.reply.Reply.{Reply}
 use Rattle.host_events.specs.declared.reply.Reply.TheVariants.{Exists, Made, NoContext, Unloading, Fixed, Already, Freed}
 use Rattle.host_events.specs.declared.journal.Entry.{Entry}
 use Rattle.host_events.specs.Contexts.{made_count, IsLive, is_unloaded, is_collectible, named}
-use Rattle.host_events.specs.Kept.{IsKept}
+use Rattle.host_events.specs.Reachable.{IsKept}
 use Rattle.host_events.specs.Reserved.{sealed}
 
 -- A `New` of a name that a live context has makes nothing. Else it makes the context whose number is one

@@ -1,8 +1,6 @@
-ghost use Rattle.std.specs.Prelude.{◌≡◌};
-
 use crate::event::Event;
-use crate::listed::Listed;
 use crate::reply::Reply;
+use cli_words::Listed;
 
 /// One event of a thread, with the host's reply.
 #[derive(Debug, Drop)]
@@ -15,12 +13,3 @@ pub struct Entry {
 
 /// All entries of a run so far, the oldest first.
 pub type Journal = Listed<Entry>;
-
-impl Journal {
-    /// The entries, the oldest first.
-    pub fn entries(&self) -> &[Entry]
-        ensures { result.now ≡ self.now }
-    {
-        self.items()
-    }
-}

@@ -6,7 +6,6 @@
 mod event;
 mod journal;
 mod laws;
-mod listed;
 mod order;
 mod outcome;
 mod reply;
@@ -14,10 +13,10 @@ mod reserved;
 #[cfg(test)]
 mod tests;
 
+pub use cli_words::Listed;
 pub use event::{ContextKind, Event};
 pub use journal::{Entry, Journal};
 pub use laws::one_reply;
-pub use listed::Listed;
 pub use order::{Answer, CodeOf, Order, Room};
 pub use outcome::{CommandEnd, End, Lines, Outcome};
 pub use reply::Reply;

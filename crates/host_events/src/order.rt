@@ -17,9 +17,10 @@ pub struct Room {
 pub struct Order<C> {
     /// It goes into the journal.
     pub event: Event,
-    /// An event equal to `event`: its names go into the host's tables.
+    /// An event equal to `event`, for names that are kept beside the journal. No event's names are
+    /// yet: the host lets it go.
     pub again: Event,
-    /// The code of the assembly that the event publishes.
+    /// The code of an assembly. No event publishes one yet: the host lets it go.
     pub code: Option<C>,
     /// It goes into the journal's reply.
     pub room: Room,
@@ -40,6 +41,7 @@ pub struct CodeOf {
 #[derive(Debug, Drop)]
 pub struct Answer {
     pub reply: Reply,
-    /// The code of the assembly that the reply names.
+    /// Where the code of the assembly that the reply names comes from. No reply names one yet: it
+    /// is `None`.
     pub code: Option<CodeOf>,
 }

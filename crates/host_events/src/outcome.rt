@@ -1,8 +1,5 @@
-ghost use Rattle.std.specs.Prelude.{◌≡◌};
-
-use crate::listed::Listed;
 use crate::reply::Reply;
-use cli_words::Units;
+use cli_words::{Listed, Units};
 
 /// What a command ended with.
 #[derive(Debug, Drop)]
@@ -23,12 +20,3 @@ pub struct CommandEnd {
 
 /// How the commands of one thread ended, in their order.
 pub type End = Listed<CommandEnd>;
-
-impl End {
-    /// The ends of the commands, in their order.
-    pub fn commands(&self) -> &[CommandEnd]
-        ensures { result.now ≡ self.now }
-    {
-        self.items()
-    }
-}

@@ -2,16 +2,21 @@
 -- docs/design/features/unloadability).
 use Rattle.std.specs.Prelude.{ℕ, Bool, false, List, IsTrue}
 use Rattle.std.specs.List.{list_any}
+use Rattle.host_events.specs.declared.event.Event.{Event}
+use Rattle.host_events.specs.declared.event.Event.TheVariants.{New, Unload, Collect}
+use Rattle.host_events.specs.declared.reply.Reply.{Reply}
 use Rattle.host_events.specs.declared.journal.Entry.{Entry}
 use Rattle.host_events.specs.Contexts.{IsLive, IsUnloaded}
 
--- a test of whether an entry of the journal makes an edge from x to y: none does yet
-abbrev pub makes_edge : List Entry → ℕ → ℕ → Entry → Bool
-makes_edge journal x y _ = false
+-- a test of whether an event of the journal, with its reply, makes an edge from x to y: none does yet
+abbrev pub makes_edge : List Entry → ℕ → ℕ → Event → Reply → Bool
+makes_edge journal x y (New name kind) reply = false
+makes_edge journal x y (Unload name) reply = false
+makes_edge journal x y Collect reply = false
 
 -- context x refers to context y
 abbrev pub IsEdge : List Entry → ℕ → ℕ → Type 0
-IsEdge journal x y = IsTrue (list_any (makes_edge journal x y) journal)
+IsEdge journal x y = IsTrue (list_any (λ entry. makes_edge journal x y entry.event entry.reply) journal)
 
 -- why a live context is kept by itself
 pub data HasCause (journal : List Entry) (x : ℕ) : Type 0 where
