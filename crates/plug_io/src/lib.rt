@@ -18,11 +18,10 @@ pub use writing::{Failed, MemSink, Sink, SureSink};
 mod tests {
     use super::*;
     use std::alloc::{AllocError, Global};
-    use std::fmt::Display;
-    use std::io::Print;
+    use std::os::unix::fs::symlink;
     use std::process::Abort;
     use std::test::Fail;
-    use std::{env, fs, io, process, thread};
+    use std::{env, fs, process, thread};
 
     type Answer<'a> = Result<&'a [u8], &'static str>;
 
@@ -56,63 +55,36 @@ mod tests {
 
     fn some_files(alloc: Global) -> Result<Vec<(String, Vec<u8>)>, AllocError> {
         let mut files = Vec::new(alloc);
-        for (path, content) in [("a", "one"), ("b", ""), ("a", "twice")] {
-            let path = String::from_str(alloc, path)?;
+        for content in ["one", "twice"] {
+            let path = String::from_str(alloc, "a")?;
             files.push((path, content.as_bytes().to_vec(alloc)?))?;
         }
         Ok(files)
     }
 
     #[test]
-    fn files_in_memory(rt: HostRuntime) -> Result<(), Fail> {
+    fn devices_in_memory(rt: HostRuntime) -> Result<(), Fail> {
         let alloc = rt.alloc();
-        let one: &[u8] = b"one";
+        let rows = [("a", 3, Ok(b"one".as_slice())), ("a", 3, Err("failed"))];
         let mut files = MemFiles {
             held: some_files(alloc)?,
-            fail_at: [3].to_vec(alloc)?,
+            fail_at: [2].to_vec(alloc)?,
             calls: 0,
             faults: 0,
         };
-        let rows = [
-            ("a", 3, Ok(one)),
-            ("a", 2, Err("too long")),
-            ("a", 3, Err("failed")),
-            ("b", 0, Ok(&one[3..])),
-            ("c", 9, Err("absent")),
-        ];
         check_reads(&rt, alloc, &mut files, &rows);
-        assert_eq!(rt; (files.calls, files.faults), (5, 1));
-
         let mut files = SureFiles {
             held: some_files(alloc)?,
         };
-        check_reads(
+        check_reads(&rt, alloc, &mut files, &rows[..1]);
+        let mut sink = MemSink::new(alloc, 4)?;
+        check_writes(
             &rt,
-            alloc,
-            &mut files,
-            &[rows[0], rows[1], rows[3], rows[4]],
+            &mut sink,
+            &[("abc", Some(3)), ("def", Some(1)), ("g", None)],
         );
-        if let Found::Failed = files.read(alloc, "a", 3) {
-            unreachable!();
-        }
-        Ok(())
-    }
-
-    #[test]
-    fn sinks_without_a_system(rt: HostRuntime) -> Result<(), Fail> {
-        let mut sink = MemSink::new(rt.alloc(), 4)?;
-        let rows = [
-            ("abc", Some(3)),
-            ("", Some(0)),
-            ("def", Some(1)),
-            ("g", None),
-            ("", None),
-        ];
-        check_writes(&rt, &mut sink, &rows);
         assert_eq!(rt; sink.written.as_slice(), b"abcd".as_slice());
-        assert_eq!(rt; (sink.room_left, sink.faults), (0, 2));
-        check_writes(&rt, &mut SureSink, &[("", Some(0))]);
-        assert_eq!(rt; SureSink.write(b"abc").unwrap(), 3);
+        check_writes(&rt, &mut SureSink, &[("abc", Some(3))]);
         Ok(())
     }
 
@@ -123,46 +95,26 @@ mod tests {
         let folder = env::temp_dir(&rt)?;
         let path = folder.join(alloc, name.as_str())?;
         let path = path.as_str();
+        let below = format!(in alloc; "{path}/below")?;
+        let link = format!(in alloc; "{path}.link")?;
+        let long = vec![in alloc; b'x'; 70_000]?;
         let mut files = DirFiles { rt, faults: 0 };
         check_reads(&rt, alloc, &mut files, &[(path, 9, Err("absent"))]);
-        fs::write(&rt, path, "one")?;
+        fs::write(&rt, path, long.as_slice())?;
+        symlink(&rt, link.as_str(), link.as_str())?;
         let rows = [
-            (path, usize::MAX, Ok(b"one".as_slice())),
-            (path, 3, Ok(b"one".as_slice())),
-            (path, 2, Err("too long")),
+            (path, usize::MAX, Ok(long.as_slice())),
+            (path, 70_000, Ok(long.as_slice())),
+            (path, 69_999, Err("too long")),
+            (below.as_str(), 9, Err("absent")),
+            (link.as_str(), 9, Err("failed")),
+            (folder.as_str(), 9, Err("failed")),
         ];
         check_reads(&rt, alloc, &mut files, &rows);
+        assert_eq!(rt; files.faults, 2);
+        fs::remove_file(&rt, link.as_str())?;
         fs::remove_file(&rt, path)?;
-        assert_eq!(rt; files.faults, 0);
-        check_reads(
-            &rt,
-            alloc,
-            &mut files,
-            &[(folder.as_str(), 9, Err("failed"))],
-        );
-        assert_eq!(rt; files.faults, 1);
         Ok(())
-    }
-
-    // An output that takes nothing.
-    struct Stuck;
-
-    impl Print for Stuck {
-        fn print<D: Display + Drop>(&self, _value: D) -> io::Result<()> {
-            Ok(())
-        }
-
-        fn println<D: Display + Drop>(&self, _value: D) -> io::Result<()> {
-            Ok(())
-        }
-
-        fn write_all(&self, _bytes: &[u8]) -> io::Result<()> {
-            Ok(())
-        }
-
-        fn write_some(&self, _bytes: &[u8]) -> io::Result<usize> {
-            Ok(0)
-        }
     }
 
     #[test]
@@ -170,12 +122,6 @@ mod tests {
         let mut sink = StdSink { rt, faults: 0 };
         check_writes(&rt, &mut sink, &[("one line\n", Some(9)), ("", Some(0))]);
         assert_eq!(rt; sink.faults, 0);
-        let mut sink = StdSink {
-            rt: &Stuck,
-            faults: u64::MAX - 1,
-        };
-        check_writes(&rt, &mut sink, &[("a", None), ("a", None), ("", Some(0))]);
-        assert_eq!(rt; sink.faults, u64::MAX);
     }
 
     #[test]
