@@ -1,5 +1,5 @@
 -- Lemmas on the texts of inspections.
-use Rattle.std.proofs.Common.{◌≡◌, ℕ, zero, suc, ◌+◌, ◌-◌, ◌<◌, List, [], ◌∷◌, ◌++◌, length, Option, Some, None, refl, sym, ◌∙◌, ap, subst, append_assoc, append-nil, arith, eqb, false, Bool, ◌/◌, ◌%◌}
+use Rattle.std.proofs.Common.{◌≡◌, ℕ, zero, suc, ◌+◌, ◌-◌, ◌<◌, List, [], ◌∷◌, ◌++◌, length, Option, Some, None, refl, sym, ◌∙◌, ap, subst, append_assoc, append-nil, arith, eqb, cond, true, false, Bool, ◌/◌, ◌%◌}
 use Rattle.std.specs.List.{flat_map, range_with_len}
 use Rattle.std.specs.Prelude.{encode_utf8_all, nat_lt}
 use Rattle.std.specs.Str.{IsUtf8, chars}
@@ -8,11 +8,14 @@ use Rattle.std.specs.Char.Utf16.{is_high_surrogate}
 use Rattle.std.proofs.lemmas.Str.{encodes-chars, encode_ascii}
 use Rattle.std.proofs.lemmas.Bool.{cond_both, eqb-true}
 use Rattle.cli_words.specs.Text.{units_of}
-use Rattle.assembly_image.specs.Module.{Module}
-use Rattle.assembly_image.specs.Names.{encloser, full_name_within, qualified, type_name, type_namespace}
+use Rattle.std.specs.declared.ops.Range.{Range}
+use Rattle.metadata_tables.specs.Tables as tables
+use Rattle.assembly_image.specs.declared.members.Member.{Member}
+use Rattle.assembly_image.specs.Members.{after_list, list_of_kind, member_range, members_of, table_of}
+use Rattle.assembly_image.specs.Module.{Module, number}
+use Rattle.assembly_image.specs.Names.{encloser, full_name_within, has_type, qualified, type_name, type_namespace}
 use Rattle.alc_program.specs.declared.line.Line.{Line}
 use Rattle.alc_program.specs.Line.{Puts}
-use Rattle.alc_program.specs.Inspection.{version_text}
 use Rattle.alc_program.specs.Quote.{unit_text, units_text, IsApart}
 use Rattle.alc_program.proofs.LineLemmas.{puts_as, puts_then}
 use Rattle.alc_program.proofs.QuoteLemmas.{apart_joined, units_joined}
@@ -93,10 +96,21 @@ pub not_empty : (n : ℕ) (empty : Bool) → empty ≡ eqb n 0 → empty ≡ fal
 not_empty zero empty e f = cc
 not_empty (suc n) empty e f = omega arith
 
--- a version by its parts
-pub version_same : (a b c d w x y z : ℕ) → a ≡ w → b ≡ x → c ≡ y → d ≡ z →
-    version_text (record { major = a; minor = b; build = c; revision = d }) ≡ version_text (record { major = w; minor = x; build = y; revision = z })
-version_same a b c d w x y z p q r s = rw (p, q, r, s) refl
+-- the rows from the first of a type's members on, up to the one after the last
+pub listed_members : (m : Module) (kind : Member) (row : ℕ) (found : Range ℕ) → found ≡ member_range m kind row →
+    members_of m kind row ≡ range_with_len found.start (found.end - found.start)
+listed_members m kind row found same = at (has_type m row) ∙ sym (ap (λ (r : Range ℕ). range_with_len r.start (r.end - r.start)) same)
+  where
+    first : ℕ
+    first = number m tables.type_def row (list_of_kind kind)
+
+    after : ℕ
+    after = after_list m (table_of kind) row (list_of_kind kind)
+
+    at : (there : Bool) → let found : Range ℕ = cond there (record { start = first; end = after }) (record { start = 0; end = 0 }) in
+        cond there (range_with_len first (after - first)) [] ≡ range_with_len found.start (found.end - found.start)
+    at true = refl
+    at false = refl
 
 -- a name after another and one unit between them
 pub puts_joined : {S : Type 0} {written : S → Option (List ℕ)} {faults : S → ℕ} {old mid next new : Line} {from via through to : S} (outer name whole : List ℕ) (unit : ℕ) →

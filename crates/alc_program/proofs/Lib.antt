@@ -1,7 +1,9 @@
 pub mod HeadlineLemmas
 pub mod InspectionLemmas
 pub mod LineLemmas
+pub mod PlainTexts
 pub mod LoadLemmas
+pub mod OneRun
 pub mod QuoteLemmas
 pub mod ReadingLemmas
 pub mod ReportLemmas

@@ -1,13 +1,11 @@
 -- Lemmas on quoted texts.
-use Rattle.std.proofs.Common.{◌≡◌, ℕ, ◌+◌, ◌-◌, ◌/◌, ◌%◌, ◌<◌, ◌≤◌, ◌⊎◌, inl, inr, Bool, true, false, List, [], ◌∷◌, ◌++◌, length, drop, refl, sym, ◌∙◌, ap, subst, append_assoc, append-nil, take, Option, encode_utf8, arith, lt-ltb, le-ltb, ltb-false}
+use Rattle.std.proofs.Common.{◌≡◌, ℕ, ◌+◌, ◌-◌, ◌/◌, ◌%◌, ◌<◌, ◌≤◌, ◌⊎◌, inl, inr, Bool, true, false, List, [], ◌∷◌, ◌++◌, length, drop, refl, sym, ◌∙◌, ap, append_assoc, append-nil, take, Option, encode_utf8, arith, lt-ltb, le-ltb, ltb-false}
 use Rattle.std.specs.Prelude.{if◌then◌else◌, nat_lt}
-use Rattle.std.specs.List.{flat_map}
 use Rattle.std.specs.Char.{IsScalar}
 use Rattle.std.specs.Char.Escape.{encode_utf16}
 use Rattle.std.specs.Char.Utf16.{surrogate_pair_char, is_high_surrogate}
 use Rattle.std.proofs.Math.Utf8.{scalar_cases}
 use Rattle.std.proofs.lemmas.Bool.{cond_both, lt-leb, le-leb}
-use Rattle.std.proofs.lemmas.List.{flat_map_more}
 use Rattle.alc_program.specs.declared.line.Line.{Line}
 use Rattle.alc_program.specs.Line.{Puts}
 use Rattle.alc_program.specs.Quote.{is_pair, unit_text, units_text, first_text, first_length, IsApart}
@@ -50,7 +48,7 @@ pub first_alone : (unit : ℕ) (rest : List ℕ) → is_high_surrogate unit ≡ 
 first_alone unit [] e = sym (append-nil (unit_text unit))
 first_alone unit (next ∷ rest) e = rw e refl
 
-first_pair : (high low : ℕ) (rest : List ℕ) → is_pair high low ≡ true → units_text (high ∷ low ∷ rest) ≡ encode_utf8 (surrogate_pair_char high low) ++ units_text rest
+pub first_pair : (high low : ℕ) (rest : List ℕ) → is_pair high low ≡ true → units_text (high ∷ low ∷ rest) ≡ encode_utf8 (surrogate_pair_char high low) ++ units_text rest
 first_pair high low rest e = rw e refl
 
 -- nothing, one unit that begins no pair, a pair, and two texts
@@ -84,7 +82,7 @@ top c (inl below) = omega arith
 top c (inr within) = within.1
 
 -- the two units of a character beyond the first plane are a pair
-pair_of : (over : ℕ) → over < 0x10_0000 → is_pair (0xD800 + over / 0x400) (0xDC00 + over % 0x400) ≡ true
+pub pair_of : (over : ℕ) → over < 0x10_0000 → is_pair (0xD800 + over / 0x400) (0xDC00 + over % 0x400) ≡ true
 pair_of over few =
     let high : over / 0x400 < 0x400 = omega arith in
     let low : over % 0x400 < 0x400 = omega arith in
@@ -102,19 +100,6 @@ apart_char c scalar =
     (λ _. apart_alone c (below_surrogates c range))
     (λ beyond. apart_pair (0xD800 + (c - 0x1_0000) / 0x400) (0xDC00 + (c - 0x1_0000) % 0x400)
     (pair_of (c - 0x1_0000) (omega (arith, top c range, ltb-false c 0x1_0000 beyond))))
-
--- one character more was put
-pub puts_char : {S : Type 0} {written : S → Option (List ℕ)} {faults : S → ℕ} {old mid new : Line} {from via to : S} (done : List ℕ) (c : ℕ) →
-    IsScalar c → Puts written faults old from mid via (units_text (flat_map encode_utf16 done)) × IsApart (flat_map encode_utf16 done) →
-    Puts written faults mid via new to (units_text (encode_utf16 c)) →
-    Puts written faults old from new to (units_text (flat_map encode_utf16 (done ++ c ∷ []))) × IsApart (flat_map encode_utf16 (done ++ c ∷ []))
-puts_char {S} {written} {faults} {old} {mid} {new} {from} {via} {to} done c scalar (p, apart) q =
-    let more : flat_map encode_utf16 done ++ encode_utf16 c ≡ flat_map encode_utf16 (done ++ c ∷ []) = flat_map_more encode_utf16 [] done c in
-    let both = apart_then (flat_map encode_utf16 done) (encode_utf16 c) apart (apart_char c scalar) in
-    let P : List ℕ → Type 0 = λ text. Puts written faults old from new to text in (
-      subst P (sym (apart (encode_utf16 c)) ∙ ap units_text more) (puts_then p q),
-      subst IsApart more both,
-    )
 
 -- a unit that begins no pair stands between two texts
 pub units_joined : (a b : List ℕ) (unit : ℕ) → IsApart a → is_high_surrogate unit ≡ false →

@@ -1,6 +1,7 @@
 -- What a file reads as.
 use Rattle.std.proofs.Common.{◌≡◌, ℕ, zero, suc, ◌<◌, ◌≤◌, List, ◌∷◌, [], length, Option, Some, None, IfSome, refl, sym, ◌∙◌, ap, subst, arith, lt-ltb, le-ltb}
 use Rattle.std.specs.Prelude.{IsSomeAnd}
+use Rattle.std.proofs.lemmas.Option.{IfSome_then}
 use Rattle.plug_io.specs.Files.{held_at}
 use Rattle.assembly_image.specs.Reading.{FileReading, Reads, file_reading, image_limit, module_of, reading_by, reading_of}
 use Rattle.assembly_image.specs.Reading.FileReading.{Good, TooLong}
@@ -20,10 +21,7 @@ pub reads_bytes : (held : Option (List (List ℕ × List ℕ))) (file bytes : Li
 reads_bytes held file bytes reading told same = record {
   content = Some bytes;
   read = same;
-  found = λ entries e.
-      let there : IfSome (Some entries) (λ es. (held_at es file ≡ Some bytes) × (length bytes ≤ image_limit)) =
-      subst (λ (h : Option (List (List ℕ × List ℕ))). IfSome h (λ es. (held_at es file ≡ Some bytes) × (length bytes ≤ image_limit))) e told in
-      there.0;
+  found = IfSome_then held told (λ entries there. there.0);
 }
 
 -- some bytes that are longer
@@ -43,15 +41,9 @@ pub reads_too_long : (held : Option (List (List ℕ × List ℕ))) (file : List 
     IfSome held (λ entries. IsSomeAnd (held_at entries file) (λ bytes. image_limit < length bytes)) → ReadsAs held file TooLong
 reads_too_long None file told =
     let long = longer image_limit in
-    record { content = Some long.0; read = too_long long.0 long.1; found = λ entries e. absurd (no_entries entries e) }
-  where
-    no_entries : (entries : List (List ℕ × List ℕ)) → None ≡ Some entries → ⊥
-    no_entries entries e = cc
+    record { content = Some long.0; read = too_long long.0 long.1; found = tt }
 reads_too_long (Some entries) file told = record {
   content = held_at entries file;
   read = too_long_content (held_at entries file) told;
-  found = λ es e. ap (λ (xs : List (List ℕ × List ℕ)). held_at xs file) (sym (same es e));
+  found = refl;
 }
-  where
-    same : (es : List (List ℕ × List ℕ)) → Some entries ≡ Some es → entries ≡ es
-    same es e = cc

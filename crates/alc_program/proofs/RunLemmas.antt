@@ -70,8 +70,8 @@ can_sum shares share one events contexts handles rules =
     rw one (record { some = omega arith; threads = omega arith; events = omega arith; contexts = omega arith; handles = omega arith; rules = omega arith })
 
 -- there are fewer contexts than a host can have
-pub numbered : (lines : List CommandLine) (bounds : Bounds) → bounds ≡ bounds_of (share_for lines ∷ []) → length lines ≤ 1024 → bounds.contexts ≤ 1088
-numbered lines bounds e few = rw e (omega (arith, new_count_bound lines))
+pub few_contexts : (lines : List CommandLine) (bounds : Bounds) → bounds ≡ bounds_of (share_for lines ∷ []) → length lines ≤ 1024 → bounds.contexts ≤ 1088
+few_contexts lines bounds e few = rw e (omega (arith, new_count_bound lines))
 
 -- how many contexts the reply to a command's event makes
 pub made_at_most : (journal : List Entry) (command : Command) (reply : Reply) → IsReply journal (event_of command) reply →

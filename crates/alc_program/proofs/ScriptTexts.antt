@@ -15,7 +15,7 @@ use Rattle.alc_program.specs.declared.script.Command.{Command}
 use Rattle.alc_program.specs.declared.script.Command.TheVariants.{New, Unload, Collect}
 use Rattle.alc_program.specs.declared.script.CommandLine.{CommandLine}
 use Rattle.alc_program.specs.declared.script.Script.{Script}
-use Rattle.alc_program.specs.Script.{command_text, IsPlain, line_text, block_text, numbered, Accepts, NotBuiltOnlyIf}
+use Rattle.alc_program.specs.Script.{command_text, IsPlain, line_text, block_text, command_lines, Accepts, NotBuiltOnlyIf}
 
 abbrev pub is_lf : ℕ → Bool
 is_lf b = b == 10
@@ -32,7 +32,7 @@ IsPlainText text = (command : Command) × IsPlain command × (text ≡ command_t
 pub record AreLinesOf (lines : List CommandLine) (texts : List (List ℕ)) : Type 0 where
   pub commands : List Command
   pub plain : All IsPlain commands
-  pub said : lines ≡ numbered commands
+  pub said : lines ≡ command_lines commands
   pub spelled : map command_text commands ≡ texts
 
 name_byte-not_lf : (b : ℕ) → is_name_byte b ≡ true → is_lf b ≡ false
@@ -148,13 +148,13 @@ numbered_from-push n (d ∷ cs) c =
     let rest = numbered_from-push (n + 1) cs c in
     cc
 
-length-numbered : (cs : List Command) → length (numbered cs) ≡ length cs
-length-numbered cs = length-map (enumerate_from 2 cs) _ ∙ length-enumerate_from 2 cs
+length-command_lines : (cs : List Command) → length (command_lines cs) ≡ length cs
+length-command_lines cs = length-map (enumerate_from 2 cs) _ ∙ length-enumerate_from 2 cs
 
 pub length-lines : (lines : List CommandLine) (texts : List (List ℕ)) → AreLinesOf lines texts →
     length lines ≡ length texts
 length-lines lines texts h =
-    ap length h.said ∙ length-numbered h.commands ∙ sym (length-map h.commands command_text)
+    ap length h.said ∙ length-command_lines h.commands ∙ sym (length-map h.commands command_text)
     ∙ ap length h.spelled
 
 pub AreLinesOf-push : (lines : List CommandLine) (texts : List (List ℕ)) (command : Command)
@@ -163,7 +163,7 @@ pub AreLinesOf-push : (lines : List CommandLine) (texts : List (List ℕ)) (comm
     (texts ++ text ∷ [])
 AreLinesOf-push lines texts command text h p e =
     let n : length h.commands ≡ length lines =
-    sym (ap length h.said ∙ length-numbered h.commands) in
+    sym (ap length h.said ∙ length-command_lines h.commands) in
     let said = numbered_from-push 2 h.commands command in
     record {
       commands = h.commands ++ command ∷ [];
@@ -176,10 +176,10 @@ AreLinesOf-push lines texts command text h p e =
 pub found-all : (lines : List CommandLine) (texts all : List (List ℕ)) → AreLinesOf lines texts →
     length lines ≤ 1024 → texts ≡ all →
     (commands : List Command) × (length commands ≤ 1024) × All IsPlain commands
-    × (lines ≡ numbered commands) × (map command_text commands ≡ all)
+    × (lines ≡ command_lines commands) × (map command_text commands ≡ all)
 found-all lines texts all h few e = (
   h.commands,
-  omega (arith, ap length h.said, length-numbered h.commands),
+  omega (arith, ap length h.said, length-command_lines h.commands),
   h.plain,
   h.said,
   h.spelled ∙ e,
@@ -286,7 +286,7 @@ Accepts-one bytes s t a b =
     in
     let commands : a.commands ≡ b.commands =
     block_text-one a.commands b.commands a.plain b.plain same in
-    a.said ∙ ap (λ cs. let script : Script = record { threads = numbered cs ∷ [] } in script)
+    a.said ∙ ap (λ cs. let script : Script = record { threads = command_lines cs ∷ [] } in script)
     commands ∙ sym b.said
 
 pub lines-from_accepts : (bytes block lines : List ℕ) (script : Script) →
@@ -299,7 +299,7 @@ lines-from_accepts bytes block lines script w e a =
 pub accepted : (bytes block lines : List ℕ) (numbers : List CommandLine) →
     IsWithoutLf bytes block → block ≡ codes "thread" ++ lines →
     (commands : List Command) × (length commands ≤ 1024) × All IsPlain commands
-    × (numbers ≡ numbered commands) × (lines ≡ flat_map line_text commands) →
+    × (numbers ≡ command_lines commands) × (lines ≡ flat_map line_text commands) →
     Accepts bytes (record { threads = numbers ∷ [] })
 accepted bytes block lines numbers w e f = record {
   commands = f.0;

@@ -39,3 +39,8 @@ TakesTurns threads journal schedule =
     (before : List Entry) (entry : Entry) (after : List Entry) → journal ≡ before ++ entry ∷ after →
     let waiting = unfinished threads (entry ∷ after) in
     slice_get waiting (digit_at schedule (length before) % length waiting) ≡ Some entry.thread
+
+-- A run of the script: a good journal with these ends, in the turns of the schedule.
+pub record RunsScript (script : Script) (schedule : List ℕ) (journal : List Entry) (ends : List (List CommandEnd)) : Type 0 where
+  pub good : IsGood script journal ends
+  pub turns : TakesTurns (length script.threads) journal schedule

@@ -1,29 +1,22 @@
 -- The text of an inspection (own).
-use Rattle.std.specs.Prelude.{ℕ, zero, suc, List, [], ◌∷◌, ◌++◌, codes, decimal, slice_index_or}
+use Rattle.std.specs.Prelude.{ℕ, List, ◌++◌, codes, decimal}
 use Rattle.std.specs.List.{flat_map, range_with_len}
+use Rattle.cli_words.specs.Check.{name_of}
+use Rattle.cli_words.specs.declared.check.CheckCode.{CheckCode}
+use Rattle.cli_words.specs.declared.check.CheckCode.TheVariants as code
 use Rattle.assembly_name.specs.declared.version.Version.{Version}
+use Rattle.metadata_tables.specs.Tables as tables
+use Rattle.assembly_image.specs.declared.members.Member.{Member}
+use Rattle.assembly_image.specs.declared.members.Member.TheVariants.{Field, Method}
+use Rattle.assembly_image.specs.Members.{member_name, members_of}
 use Rattle.assembly_image.specs.Module.{Module, count}
-use Rattle.assembly_image.specs.Names.{assembly_name, assembly_version, reference_name, reference_version}
-use Rattle.assembly_image.specs.Names.{full_name, fields_of, field_name, methods_of, method_name}
+use Rattle.assembly_image.specs.Names.{assembly_name, assembly_version, reference_name, reference_version, full_name}
 use Rattle.assembly_image.specs.Reading.{FileReading, image_limit}
 use Rattle.assembly_image.specs.Reading.FileReading.{Absent, TooLong, Refused, Good}
 use Rattle.alc_program.specs.Quote.{quoted}
 
--- why a file is no image, by the code of the check that it fails, from 1 on; the last two come from reading
--- the file
-abbrev pub names : List (List ℕ)
-names =
-    codes "cut" ∷ codes "no-mz" ∷ codes "no-pe" ∷ codes "magic" ∷ codes "no-cli" ∷ codes "outside"
-    ∷ codes "not-il-only" ∷ codes "root-signature" ∷ codes "bounds" ∷ codes "edit-stream"
-    ∷ codes "no-tables" ∷ codes "table" ∷ codes "index" ∷ codes "list" ∷ codes "text"
-    ∷ codes "no-assembly" ∷ codes "too-long" ∷ codes "absent" ∷ []
-
-abbrev pub name_of : ℕ → List ℕ
-name_of zero = []
-name_of (suc before) = slice_index_or names before []
-
--- why it is none, and the byte of which this speaks
-abbrev pub bad_image_text : ℕ → ℕ → List ℕ
+-- the check for which a file is no image, and the byte of which it speaks
+abbrev pub bad_image_text : CheckCode → ℕ → List ℕ
 bad_image_text code at = codes "BadImage " ++ name_of code ++ codes " " ++ decimal at ++ codes "\n"
 
 -- the four parts of a version
@@ -47,28 +40,29 @@ reference_text m n =
 abbrev pub row_text : List ℕ → ℕ → List ℕ → List ℕ
 row_text word row name = word ++ decimal row ++ codes " " ++ quoted name ++ codes "\n"
 
-abbrev pub field_text : Module → ℕ → List ℕ
-field_text m n = row_text (codes "field ") n (field_name m n)
+abbrev pub member_word : Member → List ℕ
+member_word Field = codes "field "
+member_word Method = codes "method "
 
-abbrev pub method_text : Module → ℕ → List ℕ
-method_text m n = row_text (codes "method ") n (method_name m n)
+abbrev pub member_text : Module → Member → ℕ → List ℕ
+member_text m kind n = row_text (member_word kind) n (member_name m kind n)
 
 -- a type, its fields and its methods
 abbrev pub type_text : Module → ℕ → List ℕ
 type_text m row =
-    row_text (codes "type ") row (full_name m row) ++ flat_map (field_text m) (fields_of m row)
-    ++ flat_map (method_text m) (methods_of m row)
+    row_text (codes "type ") row (full_name m row) ++ flat_map (member_text m Field) (members_of m Field row)
+    ++ flat_map (member_text m Method) (members_of m Method row)
 
 -- the assembly, the rows of AssemblyRef and those of TypeDef
 abbrev pub module_text : Module → List ℕ
 module_text m =
-    assembly_text m ++ flat_map (reference_text m) (range_with_len 1 (count m 0x23))
-    ++ flat_map (type_text m) (range_with_len 1 (count m 0x02))
+    assembly_text m ++ flat_map (reference_text m) (range_with_len 1 (count m tables.assembly_ref))
+    ++ flat_map (type_text m) (range_with_len 1 (count m tables.type_def))
 
 abbrev pub reading_text : FileReading → List ℕ
-reading_text Absent = bad_image_text 18 0
-reading_text TooLong = bad_image_text 17 image_limit
-reading_text (Refused code at) = bad_image_text code at
+reading_text Absent = bad_image_text code.Absent 0
+reading_text TooLong = bad_image_text code.TooLong image_limit
+reading_text (Refused failed) = bad_image_text failed.code failed.at
 reading_text (Good m) = module_text m
 
 -- the inspection of a file that reads so

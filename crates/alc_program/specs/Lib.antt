@@ -1,8 +1,8 @@
-pub mod Asked
 pub mod Good
 pub mod Headline
 pub mod Inspect
 pub mod Inspection
+pub mod Laws
 pub mod Line
 pub mod Load
 pub mod OneThread
@@ -10,4 +10,6 @@ pub mod Quote
 pub mod Report
 pub mod Run
 pub mod Script
+pub mod Status
+pub mod Verb
 pub mod Words

@@ -48,6 +48,14 @@ first_length (unit ∷ next ∷ units) = if is_pair unit next then 2 else 1
 abbrev pub quoted : List ℕ → List ℕ
 quoted units = codes "\"" ++ units_text units ++ codes "\""
 
+-- a byte that is not spelled as itself: a control character of ASCII, a quote or a backslash
+abbrev pub is_escaped : ℕ → Bool
+is_escaped byte = nat_lt byte 32 || (byte == 34 || (byte == 92 || byte == 127))
+
+-- the text of a byte of UTF-8, in which each byte of a character beyond ASCII is spelled as itself
+abbrev pub byte_text : ℕ → List ℕ
+byte_text byte = if is_escaped byte then unit_text byte else byte ∷ []
+
 -- whatever follows, the units are spelled as they are alone: they do not end within a pair
 abbrev pub IsApart : List ℕ → Type 0
 IsApart units = (rest : List ℕ) → units_text (units ++ rest) ≡ units_text units ++ units_text rest

@@ -14,9 +14,9 @@ use Rattle.host_events.specs.declared.outcome.Outcome.TheVariants.{Replied}
 use Rattle.host_events.specs.declared.outcome.CommandEnd.{CommandEnd}
 
 -- the texts of elements that are counted from n
-abbrev pub numbered_texts : {T : Type 0} → (ℕ → T → List ℕ) → ℕ → List T → List ℕ
-numbered_texts text n [] = []
-numbered_texts text n (x ∷ xs) = text n x ++ numbered_texts text (n + 1) xs
+abbrev pub counted_texts : {T : Type 0} → (ℕ → T → List ℕ) → ℕ → List T → List ℕ
+counted_texts text n [] = []
+counted_texts text n (x ∷ xs) = text n x ++ counted_texts text (n + 1) xs
 
 -- a number after one space
 abbrev pub number_text : ℕ → List ℕ
@@ -68,6 +68,6 @@ entry_text number entry =
 -- how each thread's commands ended, and the journal
 abbrev pub report_text : List (List CommandEnd) → List Entry → List ℕ
 report_text ends journal =
-    codes "alc 1\n" ++ numbered_texts thread_text 1 ends
+    codes "alc 1\n" ++ counted_texts thread_text 1 ends
     ++ codes "journal " ++ decimal (length journal) ++ codes "\n"
-    ++ numbered_texts entry_text 1 journal ++ codes "end\n"
+    ++ counted_texts entry_text 1 journal ++ codes "end\n"

@@ -31,15 +31,15 @@ abbrev pub block_text : List Command → List ℕ
 block_text commands = codes "thread" ++ flat_map line_text commands
 
 -- the commands with the lines on which they stand, the first of them on line 2
-abbrev pub numbered : List Command → List CommandLine
-numbered commands = map (λ (n, c). record { line = n; command = c }) (enumerate_from 2 commands)
+abbrev pub command_lines : List Command → List CommandLine
+command_lines commands = map (λ (n, c). record { line = n; command = c }) (enumerate_from 2 commands)
 
 -- the bytes are a plain script, and this is what it says
 pub record Accepts (bytes : List ℕ) (script : Script) : Type 0 where
   pub commands : List Command
   pub few : length commands ≤ 1024
   pub plain : All IsPlain commands
-  pub said : script ≡ record { threads = numbered commands ∷ [] }
+  pub said : script ≡ record { threads = command_lines commands ∷ [] }
   -- one line feed more may stand at the end
   pub spelled : (bytes ≡ block_text commands) ⊎ (bytes ≡ block_text commands ++ 10 ∷ [])
 

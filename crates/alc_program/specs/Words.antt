@@ -10,11 +10,14 @@ is_schedule digits = nat_le 1 (length digits) && nat_le (length digits) 64 && li
 abbrev pub IsSchedule : List ℕ → Type 0
 IsSchedule digits = IsTrue (is_schedule digits)
 
--- `steps F N`: the script of the file F is run on one thread, in the turns of the schedule N
-pub record AsksSteps (words : List (List ℕ)) (file schedule : List ℕ) : Type 0 where
-  pub spelled : words ≡ codes "steps" ∷ file ∷ schedule ∷ []
-  pub digits : IsSchedule schedule
+-- what can be asked for
+pub data Request : Type 0 where
+  -- the script of the file is run on one thread, in the turns of the schedule
+  steps : (file schedule : List ℕ) → Request
+  -- the file is read as an image
+  inspect : (file : List ℕ) → Request
 
--- `inspect F`: the file F is read as an image
-pub record AsksInspect (words : List (List ℕ)) (file : List ℕ) : Type 0 where
-  pub spelled : words ≡ codes "inspect" ∷ file ∷ []
+-- the words `steps F N` and `inspect F` ask for it
+abbrev pub Asks : List (List ℕ) → Request → Type 0
+Asks words (steps file schedule) = (words ≡ codes "steps" ∷ file ∷ schedule ∷ []) × IsSchedule schedule
+Asks words (inspect file) = words ≡ codes "inspect" ∷ file ∷ []

@@ -1,10 +1,10 @@
 //! The inspection of a file: it is read as an image, and what it holds is written.
 ghost use Rattle.std.specs.Prelude.{◌≡◌, ◌≤◌, ℕ, List, length, IfOk, IfErr};
 ghost use Rattle.assembly_image.specs.Reading.{image_limit, reading_of};
-ghost use Rattle.alc_program.specs.Headline.{InspectCauses, WriteCauses, outside};
-ghost use Rattle.alc_program.specs.Inspect.{ReadsAs, ReadsNothing, meaning};
+ghost use Rattle.alc_program.specs.Headline.{During, IsAnswerToInspect, WritesNothing, during};
+ghost use Rattle.alc_program.specs.Inspect.{ReadsAs, meaning};
 
-use crate::inspection::{Reading, write_inspection};
+use crate::inspection::{IMAGE_LIMIT, Reading, write_inspection};
 use crate::line::Line;
 use crate::status::Status;
 use assembly_image::{ImageFault, read_image};
@@ -12,15 +12,10 @@ use plug_io::{Files, Found, Sink};
 use std::alloc::Global;
 use std::sync::Arc;
 
-/// The most bytes of an image.
-const IMAGE_LIMIT: usize = 4_194_304;
-
 /// Writes the inspection of the file.
 pub fn inspect<F: Files, S: Sink>(alloc: Global, file: &str, files: &mut F, out: &mut S) -> Status
-    ensures causes { InspectCauses
-        (outside (F.held files.old) (F.faults files.old) (F.faults files.new)
-        (S.written out.old) (S.written out.new) (S.faults out.old) (S.faults out.new))
-        file.now result }
+    ensures answer { IsAnswerToInspect file.now (during F.held F.faults files.old files.new)
+        (during S.written S.faults out.old out.new) result }
     ensures held { F.held files.new ≡ F.held files.old }
     ensures read_faults { F.faults files.old ≤ F.faults files.new }
     ensures write_faults { S.faults out.old ≤ S.faults out.new }
@@ -36,8 +31,9 @@ pub fn inspect<F: Files, S: Sink>(alloc: Global, file: &str, files: &mut F, out:
 
 /// Writes the inspection of what was read.
 fn written<S: Sink>(line: &mut Line, reading: &Reading, out: &mut S) -> Status
-    ensures causes { WriteCauses (S.written out.old) (S.written out.new)
-        (S.faults out.old) (S.faults out.new) (meaning reading.now) result }
+    ensures answer { (file : List ℕ) (files : During (List (List ℕ × List ℕ))) →
+        ReadsAs files.before file (meaning reading.now) → IsAnswerToInspect file files
+        (during S.written S.faults out.old out.new) result }
     ensures faults { S.faults out.old ≤ S.faults out.new }
 {
     match write_inspection(line, reading, out) {
@@ -50,11 +46,12 @@ fn written<S: Sink>(line: &mut Line, reading: &Reading, out: &mut S) -> Status
 fn read_file<F: Files>(alloc: Global, files: &mut F, file: &str) -> Result<Reading, Status>
     ensures reading { IfOk result (λ reading.
         ReadsAs (F.held files.old) file.now (meaning reading)) }
-    ensures status { IfErr result (ReadsNothing (F.faults files.old) (F.faults files.new)) }
+    ensures status { IfErr result (λ status. (out : During (List ℕ)) → WritesNothing out →
+        IsAnswerToInspect file.now (during F.held F.faults files.old files.new) out status) }
     ensures held { F.held files.new ≡ F.held files.old }
     ensures faults { F.faults files.old ≤ F.faults files.new }
 {
-    match files.read(alloc, file, IMAGE_LIMIT) {
+    match files.read(alloc, file, IMAGE_LIMIT as usize) {
         Found::Bytes(bytes) => read_bytes(alloc, bytes),
         Found::Absent => Ok(Reading::Absent),
         Found::TooLong => Ok(Reading::TooLong),
@@ -72,7 +69,7 @@ fn read_bytes(alloc: Global, bytes: Vec<u8>) -> Result<Reading, Status>
     let shared = Arc::new(alloc, bytes).map_err(|_| Status::OutOfMemory)?;
     match read_image(alloc, shared) {
         Ok(image) => Ok(Reading::Good(image)),
-        Err(ImageFault::Bad { code, at }) => Ok(Reading::Refused { code, at }),
+        Err(ImageFault::Bad(failed)) => Ok(Reading::Refused(failed)),
         Err(ImageFault::OutOfMemory) => Err(Status::OutOfMemory),
     }
 }

@@ -1,6 +1,7 @@
 ghost use Rattle.std.specs.Prelude.{◌≡◌, ◌≤◌, List, ℕ, MatchResult, IfOk, IfErr};
 ghost use Rattle.alc_program.specs.OneThread.{HasOneThread};
-ghost use Rattle.alc_program.specs.Load.{Loads, LoadsNothing};
+ghost use Rattle.alc_program.specs.Headline.{During, IsAnswerToSteps, WritesNothing, during};
+ghost use Rattle.alc_program.specs.Load.{HoldsScript};
 
 use crate::script::{LineCause, Script, ScriptFault, read_script};
 use crate::status::Status;
@@ -12,10 +13,11 @@ const SCRIPT_LIMIT: usize = 1_048_576;
 
 /// The script that the file holds, or the status that tells why there is none.
 pub fn load<F: Files>(alloc: Global, files: &mut F, file: &str) -> Result<Script, Status>
-    ensures script { IfOk result (λ script. Loads (F.held files.old) file.now script) }
+    ensures script { IfOk result (λ script. HoldsScript (F.held files.old) file.now script) }
     ensures one_thread { IfOk result HasOneThread }
-    ensures status { IfErr result
-        (LoadsNothing (F.held files.old) (F.faults files.old) (F.faults files.new) file.now) }
+    ensures status { IfErr result (λ status. (schedule : List ℕ) (out : During (List ℕ)) →
+        WritesNothing out → IsAnswerToSteps file.now schedule
+        (during F.held F.faults files.old files.new) out status) }
     ensures held { F.held files.new ≡ F.held files.old }
     ensures faults { F.faults files.old ≤ F.faults files.new }
 {

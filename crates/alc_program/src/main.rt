@@ -4,6 +4,7 @@
 
 mod inspect;
 mod inspection;
+mod laws;
 mod line;
 mod load;
 mod program;
@@ -16,10 +17,10 @@ mod status;
 mod tests;
 mod words;
 
+pub use laws::one_run;
 use plug_io::{DirFiles, OpenGate, StdSink};
 pub use program::{alc, alc_alone};
 pub use status::Status;
-use std::io::ErrorKind;
 use std::process::ExitCode;
 use std::{env, io};
 
@@ -28,8 +29,7 @@ fn main(rt: HostRuntime) -> ExitCode {
     let mut out = StdSink { rt, faults: 0 };
     let status = match arguments(&rt) {
         Ok(words) => alc(&rt, rt.alloc(), &words, &mut files, &mut out, &OpenGate),
-        Err(error) if error.kind() == ErrorKind::OutOfMemory => Status::OutOfMemory,
-        Err(_) => Status::Usage,
+        Err(error) => Status::of_unread_words(error.kind()),
     };
     if status != Status::Done {
         let _ = eprintln!(rt; "{status}");

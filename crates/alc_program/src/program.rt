@@ -1,7 +1,8 @@
 //! The top call.
-ghost use Rattle.std.specs.Prelude.{◌≡◌, ℕ, ◌≤◌, List, length, map, IfOk, string_bytes};
-ghost use Rattle.alc_program.specs.Good.{IsGood, TakesTurns};
-ghost use Rattle.alc_program.specs.Headline.{Answers, RunCauses, StepsCauses, outside};
+ghost use Rattle.std.specs.Prelude.{◌≡◌, ℕ, ◌≤◌, List, map, IfOk, string_bytes};
+ghost use Rattle.alc_program.specs.Good.{RunsScript};
+ghost use Rattle.alc_program.specs.Headline.{During, IsAnswerToSteps, IsAnswerToWords, during};
+ghost use Rattle.alc_program.specs.Load.{HoldsScript};
 ghost use Rattle.alc_program.specs.OneThread.{HasOneThread};
 
 use crate::inspect::inspect;
@@ -11,7 +12,7 @@ use crate::report::report;
 use crate::run::{Run, run_script};
 use crate::script::Script;
 use crate::status::Status;
-use crate::words::{Asked, asked_of};
+use crate::words::{Verb, verb_of};
 use plug_io::{Files, Gate, Sink};
 use std::alloc::{AllocError, Global};
 use std::sync::Wait;
@@ -24,8 +25,8 @@ use std::thread::Threads;
 /// and writes its inspection: what the image names, or why there is none, as where the file is
 /// absent or longer than 4,194,304 bytes. No other words are known, and there are no options.
 ///
-/// What each answer tells of the call is `Answers`: the report or the inspection that was written,
-/// or why there is none.
+/// What each answer means is `IsAnswerToWords`: the report or the inspection that was written, or
+/// why there is none.
 pub fn alc<R: Threads + Wait + Sync, F: Files, S: Sink, G: Gate + Sync>(
     _rt: &R,
     alloc: Global,
@@ -34,10 +35,9 @@ pub fn alc<R: Threads + Wait + Sync, F: Files, S: Sink, G: Gate + Sync>(
     out: &mut S,
     _gate: &G,
 ) -> Status
-    ensures headline { Answers (map string_bytes words.now)
-        (outside (F.held files.old) (F.faults files.old) (F.faults files.new)
-        (S.written out.old) (S.written out.new) (S.faults out.old) (S.faults out.new))
-        result }
+    ensures headline { IsAnswerToWords (map string_bytes words.now)
+        (during F.held F.faults files.old files.new)
+        (during S.written S.faults out.old out.new) result }
 
     // What stays, whatever the answer is.
     ensures held { F.held files.new ≡ F.held files.old }
@@ -55,29 +55,27 @@ pub fn alc_alone<F: Files, S: Sink>(
     files: &mut F,
     out: &mut S,
 ) -> Status
-    ensures headline { Answers (map string_bytes words.now)
-        (outside (F.held files.old) (F.faults files.old) (F.faults files.new)
-        (S.written out.old) (S.written out.new) (S.faults out.old) (S.faults out.new))
-        result }
+    ensures headline { IsAnswerToWords (map string_bytes words.now)
+        (during F.held F.faults files.old files.new)
+        (during S.written S.faults out.old out.new) result }
 
     // What stays, whatever the answer is.
     ensures held { F.held files.new ≡ F.held files.old }
     ensures read_faults { F.faults files.old ≤ F.faults files.new }
     ensures write_faults { S.faults out.old ≤ S.faults out.new }
 {
-    match asked_of(words) {
-        Some(Asked::Steps(asked)) => steps(alloc, asked.file, files, out),
-        Some(Asked::Inspect { file }) => inspect(alloc, file, files, out),
+    match verb_of(words) {
+        Some(Verb::Steps { file, .. }) => steps(alloc, file, files, out),
+        Some(Verb::Inspect { file }) => inspect(alloc, file, files, out),
         None => Status::Usage,
     }
 }
 
 /// Runs the script that the file holds, and writes its report.
 fn steps<F: Files, S: Sink>(alloc: Global, file: &str, files: &mut F, out: &mut S) -> Status
-    ensures causes { (schedule : List ℕ) → StepsCauses
-        (outside (F.held files.old) (F.faults files.old) (F.faults files.new)
-        (S.written out.old) (S.written out.new) (S.faults out.old) (S.faults out.new))
-        file.now schedule result }
+    ensures answer { (schedule : List ℕ) → IsAnswerToSteps file.now schedule
+        (during F.held F.faults files.old files.new)
+        (during S.written S.faults out.old out.new) result }
     ensures held { F.held files.new ≡ F.held files.old }
     ensures read_faults { F.faults files.old ≤ F.faults files.new }
     ensures write_faults { S.faults out.old ≤ S.faults out.new }
@@ -91,9 +89,9 @@ fn steps<F: Files, S: Sink>(alloc: Global, file: &str, files: &mut F, out: &mut 
 /// Runs a script, and writes its report.
 fn run_and_report<S: Sink>(alloc: Global, script: &Script, out: &mut S) -> Status
     requires { HasOneThread script.now }
-    ensures causes { (schedule : List ℕ) → RunCauses
-        (S.written out.old) (S.written out.new) (S.faults out.old) (S.faults out.new)
-        script.now schedule result }
+    ensures answer { (file schedule : List ℕ) (files : During (List (List ℕ × List ℕ))) →
+        HoldsScript files.before file script.now → IsAnswerToSteps file schedule files
+        (during S.written S.faults out.old out.new) result }
     ensures faults { S.faults out.old ≤ S.faults out.new }
 {
     match ready(alloc, script) {
@@ -108,9 +106,8 @@ fn run_and_report<S: Sink>(alloc: Global, script: &Script, out: &mut S) -> Statu
 /// Takes the buffer of the report, and runs the script: all that may lack memory.
 fn ready(alloc: Global, script: &Script) -> Result<(Line, Run), AllocError>
     requires { HasOneThread script.now }
-    ensures good { IfOk result (λ ready. IsGood script.now ready.1.journal ready.1.ends.items) }
-    ensures turns { IfOk result (λ ready. (schedule : List ℕ) →
-        TakesTurns (length script.now.threads) ready.1.journal schedule) }
+    ensures { IfOk result (λ ready. (schedule : List ℕ) →
+        RunsScript script.now schedule ready.1.journal ready.1.ends.items) }
 {
     let line = Line::new(alloc)?;
     let run = run_script(alloc, script)?;

@@ -1,11 +1,14 @@
 // Texts in quotes.
-ghost use Rattle.std.specs.Prelude.{◌≡◌, ℕ, ◌+◌, ◌<◌, ◌≤◌, List, length, encode_utf8, true};
+ghost use Rattle.std.specs.Prelude.{◌≡◌, ℕ, ◌+◌, ◌<◌, ◌≤◌, List, length, take, encode_utf8, true};
+ghost use Rattle.std.specs.Prelude.{unwrap_or};
+ghost use Rattle.std.specs.List.{flat_map, position};
 ghost use Rattle.std.specs.Char.{IsScalar};
 ghost use Rattle.std.specs.Fmt.{digit_glyph};
 ghost use Rattle.std.specs.Char.Utf16.{surrogate_pair_char};
 ghost use Rattle.alc_program.specs.Line.{Puts};
 ghost use Rattle.alc_program.specs.Quote.{is_pair, is_surrogate, escape_text, unit_text};
 ghost use Rattle.alc_program.specs.Quote.{units_text, first_text, first_length, quoted, IsApart};
+ghost use Rattle.alc_program.specs.Quote.{is_escaped, byte_text};
 ghost use Rattle.cli_words.specs.Text.{units_of};
 
 use crate::line::{Line, put};
@@ -36,9 +39,54 @@ pub(crate) fn put_text<S: Sink>(line: &mut Line, out: &mut S, text: &str)
         (units_text (units_of text.now)) }
     ensures apart { IsApart (units_of text.now) }
 {
-    for character in text.chars() {
-        put_units(line, out, character.encode_utf16(&mut [0; 2]));
+    put_bytes(line, out, text.as_bytes());
+}
+
+// Puts the bytes of a text. What is escaped is ASCII, so each run of other bytes is put at once.
+fn put_bytes<S: Sink>(line: &mut Line, out: &mut S, bytes: &[u8])
+    ensures { Puts S.written S.faults line.old out.old line.new out.new
+        (flat_map byte_text bytes.now) }
+{
+    let mut rest = bytes;
+    while !rest.is_empty() {
+        let taken = put_front(line, out, rest);
+        rest = &rest[taken..];
     }
+}
+
+// Puts the bytes before the first that is escaped, or that one, and gives how many were put.
+fn put_front<S: Sink>(line: &mut Line, out: &mut S, bytes: &[u8]) -> usize
+    requires { 0 < length bytes.now }
+    ensures puts { Puts S.written S.faults line.old out.old line.new out.new
+        (flat_map byte_text (take result bytes.now)) }
+    ensures within { (0 < result) × (result ≤ length bytes.now) }
+{
+    let plain = plain_len(bytes);
+    if plain == 0 {
+        put_unit(line, out, u16::from(bytes[0]));
+        return 1;
+    }
+    put(line, out, &bytes[..plain]);
+    plain
+}
+
+// How many bytes stand before the first that is escaped.
+fn plain_len(bytes: &[u8]) -> usize
+    ensures { result ≡ unwrap_or (position is_escaped bytes.now) (length bytes.now) }
+{
+    first_escaped(bytes).unwrap_or(bytes.len())
+}
+
+fn first_escaped(bytes: &[u8]) -> Option<usize>
+    ensures { result ≡ position is_escaped bytes.now }
+{
+    bytes.iter().position(|byte| is_escaped(*byte))
+}
+
+fn is_escaped(byte: u8) -> bool
+    ensures { result ≡ is_escaped byte }
+{
+    matches!(byte, 0..0x20 | 0x22 | 0x5c | 0x7f)
 }
 
 fn put_units<S: Sink>(line: &mut Line, out: &mut S, units: &[u16])

@@ -5,7 +5,7 @@ ghost use Rattle.std.specs.List.{flat_map};
 ghost use Rattle.plug_io.specs.Faults.{HasRisen};
 ghost use Rattle.plug_io.specs.Sink.{HasAppended};
 ghost use Rattle.alc_program.specs.Line.{HasStopped, Puts};
-ghost use Rattle.alc_program.specs.Report.{numbered_texts, spaced, number_text, kind_text};
+ghost use Rattle.alc_program.specs.Report.{counted_texts, spaced, number_text, kind_text};
 ghost use Rattle.alc_program.specs.Report.{event_text, reply_text, outcome_text, print_text};
 ghost use Rattle.alc_program.specs.Report.{end_text, thread_text, entry_text, report_text};
 
@@ -37,7 +37,7 @@ pub fn report<S: Sink>(
     ensures faults { S.faults out.old ≤ S.faults out.new }
 {
     line.clear();
-    put_report(line, out, ends, journal.entries());
+    put_report(line, out, ends, journal.items());
     flush(line, out);
     if line.has_failed() {
         Err(Failed)
@@ -61,10 +61,10 @@ fn put_report<S: Sink>(line: &mut Line, out: &mut S, ends: &[End], entries: &[En
 
 fn put_threads<S: Sink>(line: &mut Line, out: &mut S, ends: &[End])
     ensures { Puts S.written S.faults line.old out.old line.new out.new
-        (numbered_texts thread_text 1 ends.now) }
+        (counted_texts thread_text 1 ends.now) }
 {
     for (i, end) in ends.iter().enumerate() {
-        put_thread(line, out, i as u64 + 1, end.commands());
+        put_thread(line, out, i as u64 + 1, end.items());
     }
 }
 
@@ -117,7 +117,7 @@ fn put_outcome<S: Sink>(line: &mut Line, out: &mut S, outcome: &Outcome)
 
 fn put_entries<S: Sink>(line: &mut Line, out: &mut S, entries: &[Entry])
     ensures { Puts S.written S.faults line.old out.old line.new out.new
-        (numbered_texts entry_text 1 entries.now) }
+        (counted_texts entry_text 1 entries.now) }
 {
     for (i, entry) in entries.iter().enumerate() {
         put_entry(line, out, i as u64 + 1, entry);

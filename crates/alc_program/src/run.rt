@@ -3,7 +3,7 @@ ghost use Rattle.std.specs.Prelude.{◌≡◌, ◌≤◌, ℕ, List, [], ◌∷�
 ghost use Rattle.host_events.specs.declared.outcome.CommandEnd.{CommandEnd};
 ghost use Rattle.host_core.specs.Accepted.{HasRoom, room_for};
 ghost use Rattle.host_core.specs.Bounds.{bounds_of};
-ghost use Rattle.alc_program.specs.Good.{IsGood, TakesTurns};
+ghost use Rattle.alc_program.specs.Good.{RunsScript};
 ghost use Rattle.alc_program.specs.Run.{event_of, kind_of};
 ghost use Rattle.alc_program.specs.OneThread.{is_new, new_count, share_for, HasOneThread};
 ghost use Rattle.alc_program.specs.OneThread.{RunsAlone};
@@ -31,9 +31,8 @@ pub struct Run {
 /// Runs a script of one thread to its end.
 pub fn run_script(alloc: Global, script: &Script) -> Result<Run, AllocError>
     requires { HasOneThread script.now }
-    ensures good { IfOk result (λ run. IsGood script.now run.journal run.ends.items) }
-    ensures turns { IfOk result (λ run. (schedule : List ℕ) →
-        TakesTurns (length script.now.threads) run.journal schedule) }
+    ensures { IfOk result (λ run. (schedule : List ℕ) →
+        RunsScript script.now schedule run.journal run.ends.items) }
 {
     let mut ends = Vec::with_capacity(alloc, 1)?;
     let (end, journal) = run_thread(alloc, script.threads.items()[0].items())?;

@@ -4,13 +4,14 @@
 //! feed (LF). One LF more may stand at the end. A command is `new P`, `unload P` or `collect`,
 //! where P is a name and one space stands before it.
 ghost use Rattle.std.specs.Prelude.{ℕ, ◌≡◌, ◌≢◌, ◌-◌, ◌^◌, ◌<◌, ◌≤◌, ◌++◌, ◌∷◌, [], ◌⊎◌, List, All};
-ghost use Rattle.std.specs.Prelude.{length, map, ◌==◌, IfOk, IfErr, MatchOption, MatchResult};
+ghost use Rattle.std.specs.Prelude.{length, map, ◌==◌, Some, IfOk, IfErr, MatchOption, MatchResult};
 ghost use Rattle.std.specs.List.{flat_map, slice_split};
 ghost use Rattle.cli_words.specs.Name.{IsName};
 ghost use Rattle.alc_program.specs.declared.script.Command.{Command};
 ghost use Rattle.alc_program.specs.declared.script.Script.{Script};
-ghost use Rattle.alc_program.specs.Script.{command_text, IsPlain, line_text, numbered, Accepts};
+ghost use Rattle.alc_program.specs.Script.{command_text, IsPlain, line_text, command_lines, Accepts};
 ghost use Rattle.alc_program.specs.Script.{NotBuiltOnlyIf};
+ghost use Rattle.alc_program.specs.Status.{cause_name};
 
 use cli_words::{Name, NameFault};
 use host_events::Listed;
@@ -42,7 +43,10 @@ pub enum LineCause {
     NotBuilt,
 }
 
+/// The name of the cause.
 impl fmt::Display for LineCause {
+    ghost output = { λ cause. Some (cause_name cause) };
+
     fn fmt<W: fmt::Write>(&self, f: &mut fmt::Formatter<W>) -> fmt::Result {
         match self {
             LineCause::Absent => write!(f, "Absent"),
@@ -133,7 +137,7 @@ fn after<'a>(bytes: &'a [u8], word: &[u8]) -> Option<&'a [u8]>
 /// The commands of lines that each begin with an LF.
 fn commands_of(alloc: Global, lines: &[u8]) -> Result<Vec<CommandLine>, ScriptFault>
     ensures found { IfOk result (λ found. (commands : List Command) × (length commands ≤ 1024)
-        × All IsPlain commands × (found.items ≡ numbered commands)
+        × All IsPlain commands × (found.items ≡ command_lines commands)
         × (lines.now ≡ flat_map line_text commands)) }
     ensures refused { IfErr result (NotBuiltOnlyIf ((commands : List Command) →
         length commands ≤ 1024 → All IsPlain commands → lines.now ≢ flat_map line_text commands)) }
@@ -148,7 +152,7 @@ fn commands_of(alloc: Global, lines: &[u8]) -> Result<Vec<CommandLine>, ScriptFa
 /// The commands that LFs part.
 fn commands_between(alloc: Global, body: &[u8]) -> Result<Vec<CommandLine>, ScriptFault>
     ensures found { IfOk result (λ found. (commands : List Command) × (length commands ≤ 1024)
-        × All IsPlain commands × (found.items ≡ numbered commands)
+        × All IsPlain commands × (found.items ≡ command_lines commands)
         × (map command_text commands ≡ slice_split (λ b. b == LF) body.now)) }
     ensures refused { IfErr result (NotBuiltOnlyIf ((commands : List Command) →
         length commands ≤ 1024 → All IsPlain commands →

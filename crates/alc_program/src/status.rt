@@ -1,5 +1,9 @@
+ghost use Rattle.std.specs.Prelude.{◌≡◌, Some};
+ghost use Rattle.alc_program.specs.Status.{exit_status, status_line, unread_status};
+
 use crate::script::LineCause;
 use std::fmt;
+use std::io::ErrorKind;
 
 /// What a call of the program came to.
 #[derive(Clone, Copy, Debug, PartialEq, Eq)]
@@ -22,8 +26,21 @@ pub enum Status {
 }
 
 impl Status {
+    /// What an error comes to that the system gave in place of the words: words that are no text
+    /// ask for nothing.
+    pub fn of_unread_words(error: ErrorKind) -> Status
+        ensures { result ≡ unread_status error }
+    {
+        match error {
+            ErrorKind::OutOfMemory => Status::OutOfMemory,
+            _ => Status::Usage,
+        }
+    }
+
     /// The exit status of the program.
-    pub fn exit(self) -> u8 {
+    pub fn exit(self) -> u8
+        ensures { result ≡ exit_status self }
+    {
         match self {
             Status::Done => 0,
             Status::Usage => 1,
@@ -35,11 +52,14 @@ impl Status {
     }
 }
 
-/// The line that the program prints on standard error, where it is not done.
+/// The line that the program prints on standard error, without its line feed: nothing where all is
+/// done.
 impl fmt::Display for Status {
+    ghost output = { λ status. Some (status_line status) };
+
     fn fmt<W: fmt::Write>(&self, f: &mut fmt::Formatter<W>) -> fmt::Result {
         match self {
-            Status::Done => write!(f, "done"),
+            Status::Done => Ok(()),
             Status::Usage => write!(f, "usage: alc steps F N | inspect F"),
             Status::Script { line, cause } => write!(f, "script: line {line}: {cause}"),
             Status::ReadFault => write!(f, "read fault"),

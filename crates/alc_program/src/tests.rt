@@ -1,5 +1,6 @@
+mod devices;
 mod inspect;
+mod limits;
 mod reports;
-mod rows;
 mod samples;
-mod scripts;
+mod steps;

@@ -1,57 +1,45 @@
 ghost use Rattle.std.specs.Prelude.{◌≡◌, List, ℕ, IfSome, IfNone, map, string_bytes};
 ghost use Rattle.std.specs.List.{list_all};
 ghost use Rattle.std.specs.Char.{is_ascii_digit};
-ghost use Rattle.alc_program.specs.Words.{AsksSteps, AsksInspect, is_schedule};
-ghost use Rattle.alc_program.specs.Asked.{IsAsked};
+ghost use Rattle.alc_program.specs.Verb.{request_of};
+ghost use Rattle.alc_program.specs.Words.{Request, Asks, is_schedule};
+ghost use Rattle.alc_program.specs.Words.Request.{steps, inspect};
 
 /// The most digits of a schedule.
 const MAX_SCHEDULE: usize = 64;
 
-/// What the words ask for.
+/// What the words ask for: a verb, with the words that follow it.
 #[derive(Clone, Copy)]
-pub enum Asked<'a> {
-    /// `steps F N`: a run of a script.
-    Steps(Steps<'a>),
-    /// `inspect F`: the inspection of a file.
+pub enum Verb<'a> {
+    /// `steps F N`: a run of the script of the file F, in the turns of the schedule N.
+    Steps { file: &'a str, schedule: &'a [u8] },
+    /// `inspect F`: the inspection of the file F.
     Inspect { file: &'a str },
 }
 
-/// What `steps F N` asks for: the script of the file F, in the turns of the schedule N.
-#[derive(Clone, Copy)]
-pub struct Steps<'a> {
-    pub file: &'a str,
-    pub schedule: &'a [u8],
-}
-
 /// What the words ask for, if they ask for anything that the program does.
-pub fn asked_of(words: &[String]) -> Option<Asked<'_>>
-    ensures asked { IfSome result (IsAsked (map string_bytes words.now)) }
-    ensures no_steps { IfNone result ((file schedule : List ℕ) →
-        ¬ AsksSteps (map string_bytes words.now) file schedule) }
-    ensures no_inspect { IfNone result ((file : List ℕ) →
-        ¬ AsksInspect (map string_bytes words.now) file) }
+pub fn verb_of(words: &[String]) -> Option<Verb<'_>>
+    ensures asked { IfSome result (λ verb. Asks (map string_bytes words.now) (request_of verb)) }
+    ensures none { IfNone result ((request : Request) →
+        ¬ Asks (map string_bytes words.now) request) }
 {
-    if let Some(steps) = steps_of(words) {
-        return Some(Asked::Steps(steps));
+    if let Some(verb) = steps_of(words) {
+        return Some(verb);
     }
-    match inspected_of(words) {
-        Some(file) => Some(Asked::Inspect { file }),
-        None => None,
-    }
+    inspect_of(words)
 }
 
 /// What the words ask for, if they are `steps F N`.
-fn steps_of(words: &[String]) -> Option<Steps<'_>>
-    ensures asked { IfSome result (λ steps.
-        AsksSteps (map string_bytes words.now) steps.file.now steps.schedule.now) }
+fn steps_of(words: &[String]) -> Option<Verb<'_>>
+    ensures asked { IfSome result (λ verb. Asks (map string_bytes words.now) (request_of verb)) }
     ensures none { IfNone result ((file schedule : List ℕ) →
-        ¬ AsksSteps (map string_bytes words.now) file schedule) }
+        ¬ Asks (map string_bytes words.now) (steps file schedule)) }
 {
     let [verb, file, schedule] = words else {
         return None;
     };
     if verb.as_str() == "steps" && is_schedule(schedule.as_bytes()) {
-        return Some(Steps {
+        return Some(Verb::Steps {
             file: file.as_str(),
             schedule: schedule.as_bytes(),
         });
@@ -59,17 +47,19 @@ fn steps_of(words: &[String]) -> Option<Steps<'_>>
     None
 }
 
-/// The file, if the words are `inspect F`.
-fn inspected_of(words: &[String]) -> Option<&str>
-    ensures asked { IfSome result (λ file. AsksInspect (map string_bytes words.now) file.now) }
+/// What the words ask for, if they are `inspect F`.
+fn inspect_of(words: &[String]) -> Option<Verb<'_>>
+    ensures asked { IfSome result (λ verb. Asks (map string_bytes words.now) (request_of verb)) }
     ensures none { IfNone result ((file : List ℕ) →
-        ¬ AsksInspect (map string_bytes words.now) file) }
+        ¬ Asks (map string_bytes words.now) (inspect file)) }
 {
     let [verb, file] = words else {
         return None;
     };
     if verb.as_str() == "inspect" {
-        return Some(file.as_str());
+        return Some(Verb::Inspect {
+            file: file.as_str(),
+        });
     }
     None
 }

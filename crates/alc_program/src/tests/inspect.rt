@@ -1,7 +1,5 @@
-use super::rows::{ROOM, files, words};
-use crate::alc_alone;
+use super::devices::{ROOM, answer};
 use crate::status::Status;
-use plug_io::MemSink;
 use std::alloc::{AllocError, Global};
 use std::test::Fail;
 
@@ -145,24 +143,15 @@ fn pad(bytes: &mut Vec<u8>, end: usize) -> Result<(), AllocError> {
     Ok(())
 }
 
-/// The answer to `inspect F` over this file, if there is one, and what was written.
-pub(super) fn inspect(
-    alloc: Global,
-    held: Option<&[u8]>,
-    fail_at: &[u64],
-    room: usize,
-) -> Result<(Status, MemSink), AllocError> {
-    let asked = words(alloc, "inspect F")?;
-    let mut files = files(alloc, held, fail_at)?;
-    let mut out = MemSink::new(alloc, room)?;
-    let status = alc_alone(alloc, &asked, &mut files, &mut out);
-    Ok((status, out))
+/// The image of an assembly `Lib`.
+pub(super) fn lib_image(alloc: Global) -> Result<Vec<u8>, AllocError> {
+    image(alloc, LIB_STRINGS, &LIB_ROWS)
 }
 
 #[test]
 fn inspects_files(rt: HostRuntime) -> Result<(), Fail> {
     let alloc = rt.alloc();
-    let lib = image(alloc, LIB_STRINGS, &LIB_ROWS)?;
+    let lib = lib_image(alloc)?;
     let names = image(alloc, NAME_STRINGS, &NAME_ROWS)?;
     let long = vec![in alloc; 0; 4_194_305]?;
     for (held, want) in [
@@ -179,38 +168,9 @@ fn inspects_files(rt: HostRuntime) -> Result<(), Fail> {
         ),
         (None, "inspect 1\nBadImage absent 0\nend\n"),
     ] {
-        let (status, out) = inspect(alloc, held, &[], ROOM)?;
+        let (status, out) = answer(alloc, "inspect F", held, &[], ROOM)?;
         assert_eq!(rt; status, Status::Done);
-        assert_eq!(rt; out.written.as_slice(), want.as_bytes());
-    }
-    Ok(())
-}
-
-#[test]
-fn devices_that_fail_are_told(rt: HostRuntime) -> Result<(), Fail> {
-    let alloc = rt.alloc();
-    let lib = image(alloc, LIB_STRINGS, &LIB_ROWS)?;
-    for (held, fail_at, room, want, written) in [
-        (
-            Some(lib.as_slice()),
-            [1u64].as_slice(),
-            ROOM,
-            Status::ReadFault,
-            "",
-        ),
-        (None, &[1], ROOM, Status::ReadFault, ""),
-        (
-            Some(lib.as_slice()),
-            &[],
-            22,
-            Status::WriteFault,
-            "inspect 1\nassembly \"Li",
-        ),
-        (Some(lib.as_slice()), &[2], 0, Status::WriteFault, ""),
-    ] {
-        let (status, out) = inspect(alloc, held, fail_at, room)?;
-        assert_eq!(rt; status, want);
-        assert_eq!(rt; out.written.as_slice(), written.as_bytes());
+        assert_eq!(rt; out.as_slice(), want.as_bytes());
     }
     Ok(())
 }

@@ -1,5 +1,4 @@
-use super::inspect::inspect;
-use super::rows::ROOM;
+use super::devices::{ROOM, answer};
 use crate::status::Status;
 use image_maker::{SampleName, make, sample};
 use std::test::Fail;
@@ -33,6 +32,36 @@ const OPS: &str = "inspect 1\nassembly \"Ops\" 1.0.0.0\nref \"System.Runtime\" 8
 const REL: &str = "inspect 1\nassembly \"Plugin\" 1.2.0.0\nref \"System.Runtime\" 8.0.0.0\n\
     type 1 \"<Module>\"\ntype 2 \"Plugin.Entry\"\nmethod 1 \"Answer\"\nmethod 2 \"Half\"\nend\n";
 
+/// What `cksum` prints of `examples/lib.dll`, the first sample: its CRC, and how many bytes it has.
+const LIB_DLL: (u32, usize) = (1_965_012_546, 2_048);
+
+// The CRC of `cksum` after one byte more.
+fn crc_after(crc: u32, byte: u8) -> u32 {
+    let mut next = crc ^ (u32::from(byte) << 24);
+    for _ in 0..8 {
+        let shifted = next << 1;
+        next = if next < 1 << 31 {
+            shifted
+        } else {
+            shifted ^ 0x04C1_1DB7
+        };
+    }
+    next
+}
+
+// The CRC of `cksum`, which goes on over the length, its lowest byte first.
+fn crc_of(bytes: &[u8]) -> u32 {
+    let mut crc = bytes.iter().fold(0, |crc, byte| crc_after(crc, *byte));
+    let mut rest = bytes.len();
+    for _ in 0..8 {
+        if rest > 0 {
+            crc = crc_after(crc, (rest % 256) as u8);
+            rest /= 256;
+        }
+    }
+    !crc
+}
+
 #[test]
 fn inspects_samples(rt: HostRuntime) -> Result<(), Fail> {
     let alloc = rt.alloc();
@@ -49,9 +78,13 @@ fn inspects_samples(rt: HostRuntime) -> Result<(), Fail> {
         let module = sample(alloc, which)?;
         assert!(rt; module.sound());
         let image = make(alloc, &module)?;
-        let (status, out) = inspect(alloc, Some(image.as_slice()), &[], ROOM)?;
+        let held = Some(image.as_slice());
+        let (status, out) = answer(alloc, "inspect F", held, &[], ROOM)?;
         assert_eq!(rt; status, Status::Done);
-        assert_eq!(rt; out.written.as_slice(), want.as_bytes());
+        assert_eq!(rt; out.as_slice(), want.as_bytes());
+        if which == SampleName::Lib1 {
+            assert_eq!(rt; (crc_of(&image), image.len()), LIB_DLL);
+        }
     }
     Ok(())
 }

@@ -1,5 +1,10 @@
-use Rattle.alc_program.proofs.HeadlineLemmas.{run_inspect}
+use Rattle.std.proofs.Common.{refl}
+use Rattle.alc_program.specs.Headline.{during}
 use Rattle.alc_program.proofs.inspect.inspect.Goals as goal
 
-pub returns-in-Ok-read_file-clause-causes : goal.returns-in-Ok-read_file-clause-causes
-returns-in-Ok-read_file-clause-causes g c = run_inspect _ _ _ _ c.in-Ok-read_file.ensures.reading c.written.ensures.causes
+pub returns-in-Ok-read_file-clause-answer : goal.returns-in-Ok-read_file-clause-answer
+returns-in-Ok-read_file-clause-answer g c =
+    c.written.ensures.answer c.args.file.now (during g.F.Files.held g.F.Files.faults c.args.files.now c.read_file.new.files) c.in-Ok-read_file.ensures.reading
+
+pub returns-clause-answer : goal.returns-clause-answer
+returns-clause-answer g c = c.in-Err.ensures.status (during g.S.Sink.written g.S.Sink.faults c.args.out.now c.args.out.now) refl

@@ -6,7 +6,7 @@ use Rattle.alc_program.proofs.inspection.put_assembly.Goals as goal
 
 pub returns : goal.returns
 returns g c =
-    let units = c.units-2.ensures ∙ c.units.ensures ∙ c.name.ensures in
+    let units = c.units-2.ensures.units ∙ c.units.ensures ∙ c.name.ensures in
     let name = puts_then c.put.ensures (puts_as (ap quoted units) c.put_quoted.ensures) in
-    let version = puts_as (ap version_text c.version-version.ensures) c.put_version.ensures in
+    let version = puts_as (ap version_text c.version.ensures) c.put_version.ensures in
     puts_then (puts_then (puts_then name c.put-2.ensures) version) c.put-3.ensures

@@ -1,7 +1,7 @@
 use Rattle.std.proofs.Common.{◌-◌, ◌≤◌}
 use Rattle.std.specs.List.{flat_map, range_with_len}
 use Rattle.assembly_image.specs.Reading.{module_of}
-use Rattle.alc_program.specs.Inspect.{member_text}
+use Rattle.alc_program.specs.Inspection.{member_text}
 use Rattle.alc_program.specs.Line.{Puts}
 use Rattle.alc_program.proofs.inspection.put_members.Given as goal
 

@@ -2,8 +2,9 @@ use Rattle.alc_program.proofs.LoadLemmas.{loaded, one_thread_accepted, refused}
 use Rattle.alc_program.proofs.load.load.Goals as goal
 
 pub returns-in-Err-At-clause-status : goal.returns-in-Err-At-clause-status
-returns-in-Err-At-clause-status g c =
-    refused _ _ c.in-Bytes.bytes.items c.deref.result.now c.in-Err-At.field-0 _ _ c.in-Bytes.ensures.found c.deref.ensures.value c.in-Err-At.field-0-is c.in-Err-At.ensures.refused
+returns-in-Err-At-clause-status g c schedule out nothing =
+    let refuses = refused _ _ c.in-Bytes.bytes.items c.deref.result.now c.in-Err-At.field-0 _ _ c.in-Bytes.ensures.found c.deref.ensures.value c.in-Err-At.field-0-is c.in-Err-At.ensures.refused in
+    (refuses.0, refuses.1, nothing)
 
 pub returns-in-Ok-clause-one_thread : goal.returns-in-Ok-clause-one_thread
 returns-in-Ok-clause-one_thread g c = one_thread_accepted _ _ c.in-Ok.ensures.accepted

@@ -1,36 +1,22 @@
-use Rattle.std.proofs.Common.{arith, refl, subst, map, string_bytes}
-use Rattle.alc_program.specs.Asked.{IsAsked}
-use Rattle.alc_program.specs.Words.{AsksInspect, AsksSteps}
-use Rattle.alc_program.specs.declared.words.Asked.{Asked}
-use Rattle.alc_program.proofs.HeadlineLemmas.{answers_inspect, answers_steps, answers_usage}
+use Rattle.std.proofs.Common.{refl, subst, map, string_bytes}
+use Rattle.alc_program.specs.Verb.{request_of}
+use Rattle.alc_program.specs.Words.{Asks}
+use Rattle.alc_program.specs.Words.Request.{steps, inspect}
+use Rattle.alc_program.specs.declared.words.Verb.{Verb}
+use Rattle.alc_program.proofs.HeadlineLemmas.{answers_asked, answers_unasked}
 use Rattle.alc_program.proofs.program.alc_alone.Goals as goal
 
-pub returns-in-Some-Steps : goal.returns-in-Some-Steps
-returns-in-Some-Steps g c =
-    let asks : AsksSteps (map string_bytes c.args.words.now) c.in-Some-Steps.asked.file.now c.in-Some-Steps.asked.schedule.now =
-    subst (λ (asked : Asked). IsAsked (map string_bytes c.args.words.now) asked) c.in-Some-Steps.field-0-is c.in-Some-Steps.ensures.asked in
-    record {
-      headline = answers_steps _ c.in-Some-Steps.asked.file.now c.in-Some-Steps.asked.schedule.now _ _ asks c.steps.ensures.causes;
-      held = c.steps.ensures.held;
-      read_faults = c.steps.ensures.read_faults;
-      write_faults = c.steps.ensures.write_faults;
-    }
+pub returns-in-Some-Steps-clause-headline : goal.returns-in-Some-Steps-clause-headline
+returns-in-Some-Steps-clause-headline g c =
+    let asks : Asks (map string_bytes c.args.words.now) (steps c.in-Some-Steps.file.now c.in-Some-Steps.field-0-1.now) =
+    subst (λ (verb : Verb). Asks (map string_bytes c.args.words.now) (request_of verb)) c.in-Some-Steps.field-0-is c.in-Some-Steps.ensures.asked in
+    answers_asked _ (steps c.in-Some-Steps.file.now c.in-Some-Steps.field-0-1.now) _ _ _ asks (c.steps.ensures.answer c.in-Some-Steps.field-0-1.now)
 
-pub returns-in-Some-Inspect : goal.returns-in-Some-Inspect
-returns-in-Some-Inspect g c =
-    let asks : AsksInspect (map string_bytes c.args.words.now) c.in-Some-Inspect.file.now =
-    subst (λ (asked : Asked). IsAsked (map string_bytes c.args.words.now) asked) c.in-Some-Inspect.field-0-is c.in-Some-Inspect.ensures.asked in
-    record {
-      headline = answers_inspect _ c.in-Some-Inspect.file.now _ _ asks c.inspect.ensures.causes;
-      held = c.inspect.ensures.held;
-      read_faults = c.inspect.ensures.read_faults;
-      write_faults = c.inspect.ensures.write_faults;
-    }
+pub returns-in-Some-Inspect-clause-headline : goal.returns-in-Some-Inspect-clause-headline
+returns-in-Some-Inspect-clause-headline g c =
+    let asks : Asks (map string_bytes c.args.words.now) (inspect c.in-Some-Inspect.file.now) =
+    subst (λ (verb : Verb). Asks (map string_bytes c.args.words.now) (request_of verb)) c.in-Some-Inspect.field-0-is c.in-Some-Inspect.ensures.asked in
+    answers_asked _ (inspect c.in-Some-Inspect.file.now) _ _ _ asks c.inspect.ensures.answer
 
-pub returns-in-None : goal.returns-in-None
-returns-in-None g c = record {
-  headline = answers_usage _ _ c.in-None.ensures.no_steps c.in-None.ensures.no_inspect refl refl refl;
-  held = refl;
-  read_faults = omega arith;
-  write_faults = omega arith;
-}
+pub returns-in-None-clause-headline : goal.returns-in-None-clause-headline
+returns-in-None-clause-headline g c = answers_unasked _ _ _ c.in-None.ensures.none (refl, refl) (refl, refl)

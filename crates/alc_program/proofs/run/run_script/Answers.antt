@@ -11,7 +11,7 @@ returns c =
     ∙ ap (λ (ls : List CommandLine). ls ∷ []) (sym c.items-2.ensures) in
     let ends : c.push.new.self.items ≡ c.in_ok-end.end ∷ [] =
     c.in_ok-push.ensures.items ∙ ap (λ (es : List (List CommandEnd)). es ++ c.in_ok-end.end ∷ []) c.in_ok-ends.ensures.items in
-    record {
+    λ schedule. record {
       good = good_alone c.args.script.now c.items-2.result.now c.in_ok-end.end c.push.new.self.items c.in_ok-end.journal one ends c.in_ok-end.ensures;
-      turns = λ schedule. takes_turns_alone (length c.args.script.now.threads) c.in_ok-end.journal schedule (ap length one) c.in_ok-end.ensures.alone;
+      turns = takes_turns_alone (length c.args.script.now.threads) c.in_ok-end.journal schedule (ap length one) c.in_ok-end.ensures.alone;
     }

@@ -1,10 +1,10 @@
 use Rattle.std.proofs.Common.{◌≡◌, ap, ◌∙◌, sym}
 use Rattle.host_core.specs.declared.bounds.Bounds.{Bounds}
-use Rattle.alc_program.proofs.RunLemmas.{accepted, finished, numbered, IsSoFar-push}
+use Rattle.alc_program.proofs.RunLemmas.{accepted, few_contexts, finished, IsSoFar-push}
 use Rattle.alc_program.proofs.run.run_thread.Goals as goal
 
 pub open-requires-clause-numbered : goal.open-requires-clause-numbered
-open-requires-clause-numbered c = numbered c.args.lines.now _ c.in_ok-bounds.ensures c.requires
+open-requires-clause-numbered c = few_contexts c.args.lines.now _ c.in_ok-bounds.ensures c.requires
 
 pub apply-answer-requires : goal.apply-answer-requires
 apply-answer-requires c =

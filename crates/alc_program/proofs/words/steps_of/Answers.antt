@@ -1,7 +1,7 @@
 use Rattle.std.proofs.Common.{◌≡◌, true, refl, sym, ap, ◌∙◌, ◌∷◌, [], arith, length, map, string_bytes, codes}
 use Rattle.std.proofs.lemmas.Slice.Eq.{bytes_eq-Decides}
 use Rattle.alc_program.specs.Words.{is_schedule}
-use Rattle.alc_program.proofs.WordsLemmas.{three, asks}
+use Rattle.alc_program.proofs.WordsLemmas.{three, asks_steps}
 use Rattle.alc_program.proofs.words.steps_of.Goals as goal
 
 pub returns-then-is_schedule-clause-asked : goal.returns-then-is_schedule-clause-asked
@@ -15,4 +15,4 @@ returns-then-is_schedule-clause-asked c =
     let s : c.as_bytes-then-is_schedule.result.now ≡ string_bytes c.schedule-item.result = c.as_bytes-then-is_schedule.ensures.value in
     let t : c.as_bytes.result.now ≡ string_bytes c.schedule-item.result = c.as_bytes.ensures.value in
     let digits : true ≡ is_schedule c.as_bytes.result.now = c.if-is_schedule.ensures in
-    asks _ c.as_str.result.now _ _ (ap (map string_bytes) words ∙ rw (← v, ← f, ← s) refl) verb (rw (s, ← t) digits)
+    asks_steps _ c.as_str.result.now _ _ (ap (map string_bytes) words ∙ rw (← v, ← f, ← s) refl) verb (rw (s, ← t) digits)

@@ -1,7 +1,7 @@
 use Rattle.std.proofs.Common.{◌≡◌, refl, sym, ap, ◌∙◌, ◌∷◌, [], arith, length, map, string_bytes, codes}
 use Rattle.std.proofs.lemmas.Slice.Eq.{bytes_eq-Decides}
 use Rattle.alc_program.proofs.WordsLemmas.{two, asks_inspect}
-use Rattle.alc_program.proofs.words.inspected_of.Goals as goal
+use Rattle.alc_program.proofs.words.inspect_of.Goals as goal
 
 pub returns-then-eq-clause-asked : goal.returns-then-eq-clause-asked
 returns-then-eq-clause-asked c =
