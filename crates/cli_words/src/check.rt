@@ -5,7 +5,8 @@ ghost use Rattle.cli_words.specs.Check.{name_of};
 use std::fmt;
 use thiserror::Error;
 
-/// A check that a file fails, so that it is no image. ECMA-335 II.24, II.25; the choice of the checks is this project's.
+/// A check that a file fails, so that it is no image. ECMA-335 II.24, II.25; the choice of the
+/// checks is this project's.
 #[derive(Clone, Copy, PartialEq, Eq, Debug)]
 pub enum CheckCode {
     /// The file ends within a structure that is read.

@@ -35,8 +35,8 @@ pub fn spelled_numbers_are_small()
 {}
 
 /// Where the reading of a blob stops, a spelling begins with all the bytes before, and none with
-/// those and the byte there: no longer front of the blob has a reading, and what is told as left
-/// out is the first such thing in it.
+/// those and the byte there: no longer front of the blob has a reading. What is told as left out
+/// is what the byte there stands for where a type, or the head of a method, begins.
 pub fn readings_stop_at_first()
     ensures fields { StopsAtFirst OfTypes SpellsField field_reading }
     ensures methods { StopsAtFirst OfMethods SpellsMethod method_reading }
