@@ -1,36 +1,153 @@
--- No event begins an operation yet, so each event fits after each journal.
-use Rattle.std.proofs.Common.{◌≡◌, ℕ, Bool, true, false, not, cond, eqb, List, [], ◌∷◌, Option, Some, None, refl, ap, ◌∙◌}
-use Rattle.std.specs.List.{cons_option, filter, filter_map, list_any}
+-- Operations that are open.
+use Rattle.std.proofs.Common.{◌≡◌, ℕ, Bool, true, false, not, ◌||◌, cond, eqb, List, [], ◌∷◌, ◌++◌, Option, Some, None, map, refl, sym, ap, subst, ◌∙◌, inl, inr, append_assoc}
+use Rattle.std.specs.List.{cons_option, filter, filter_map, list_all, list_any}
+use Rattle.std.proofs.lemmas.Bool.{and_parts, or_cases}
 use Rattle.host_events.specs.declared.event.Event.{Event}
-use Rattle.host_events.specs.declared.event.Event.TheVariants.{New, Unload, Collect}
+use Rattle.host_events.specs.declared.event.Event.TheVariants as events
 use Rattle.host_events.specs.declared.reply.Reply.{Reply}
-use Rattle.host_events.specs.declared.reply.Reply.TheVariants.{Exists, Made, NoContext, Unloading, Fixed, Already, Freed}
 use Rattle.host_events.specs.declared.journal.Entry.{Entry}
-use Rattle.host_events.specs.Journal.{Fits, HasNoOpen}
-use Rattle.host_events.specs.Operations.{begun_operation, ends, open_operations}
+use Rattle.host_events.specs.Contexts.{named}
+use Rattle.host_events.specs.Files.{Files}
+use Rattle.host_events.specs.Handles.{weakly}
+use Rattle.host_events.specs.Journal.{HasNoOpen, IsLegal, own_entries}
+use Rattle.host_events.specs.Laws.{OwnEntriesTellOpen}
+use Rattle.host_events.specs.Operations.{begun_operation, ends, is_command, open_in, open_operations}
+use Rattle.host_events.specs.Reply.{IsReply}
+use Rattle.host_events.proofs.Cases.{alive-each, new-each, rule-each, unload-each, weak-each}
 
-begun_by-none : (reply : Reply) (b : Bool) → cond b (begun_operation reply) None ≡ None
-begun_by-none reply false = refl
-begun_by-none (Exists c) true = refl
-begun_by-none (Made c) true = refl
-begun_by-none NoContext true = refl
-begun_by-none (Unloading c) true = refl
-begun_by-none (Fixed c) true = refl
-begun_by-none (Already c) true = refl
-begun_by-none (Freed contexts) true = refl
+-- what passes one test passes another, so where nothing passes the other, nothing passes the one
+filter-none : {X : Type 0} (p q : X → Bool) (xs : List X) → ((x : X) → q x ≡ true → p x ≡ true) →
+    filter p xs ≡ [] → filter q xs ≡ []
+filter-none p q [] within none = refl
+filter-none p q (x ∷ xs) within none = at (p x) (q x) (within x) (filter-none p q xs within) none
+  where
+    at : (b c : Bool) → (c ≡ true → b ≡ true) → (filter p xs ≡ [] → filter q xs ≡ []) →
+        cond b (x ∷ filter p xs) (filter p xs) ≡ [] → cond c (x ∷ filter q xs) (filter q xs) ≡ []
+    at true c passes later h = cc
+    at false true passes later h = cc (passes refl)
+    at false false passes later h = later h
 
-begun-none : (journal : List Entry) (thread : ℕ) →
-    filter_map (λ entry. cond (eqb entry.thread thread) (begun_operation entry.reply) None) journal ≡ []
-begun-none [] thread = refl
-begun-none (e ∷ es) thread =
-    ap (λ o. cons_option o (filter_map (λ entry. cond (eqb entry.thread thread) (begun_operation entry.reply) None) es)) (begun_by-none e.reply (eqb e.thread thread))
-    ∙ begun-none es thread
+-- what a thread began stands in its own entries
+begun_own : (journal : List Entry) (thread : ℕ) →
+    filter_map (λ step. begun_operation step.1) (own_entries journal thread)
+    ≡ filter_map (λ entry. cond (eqb entry.thread thread) (begun_operation entry.reply) None) journal
+begun_own [] thread = refl
+begun_own (e ∷ es) thread = at (eqb e.thread thread) (begun_own es thread)
+  where
+    own : Entry → Event × Reply
+    own x = (x.event, x.reply)
 
-pub open_operations-none : (journal : List Entry) (thread : ℕ) → HasNoOpen journal thread
-open_operations-none journal thread =
-    ap (filter (λ k. not (list_any (λ entry. ends k entry.event) journal))) (begun-none journal thread)
+    mine : List Entry
+    mine = filter (λ x. eqb x.thread thread) es
 
-pub each_fits : (journal : List Entry) (thread : ℕ) (event : Event) → Fits journal thread event
-each_fits journal thread (New name kind) = open_operations-none journal thread
-each_fits journal thread (Unload name) = open_operations-none journal thread
-each_fits journal thread Collect = open_operations-none journal thread
+    theirs : List ℕ
+    theirs = filter_map (λ x. cond (eqb x.thread thread) (begun_operation x.reply) None) es
+
+    at : (b : Bool) → filter_map (λ step. begun_operation step.1) (map own mine) ≡ theirs →
+        filter_map (λ step. begun_operation step.1) (map own (cond b (e ∷ mine) mine))
+        ≡ cons_option (cond b (begun_operation e.reply) None) theirs
+    at true later = ap (λ ks. cons_option (begun_operation e.reply) ks) later
+    at false later = later
+
+or-left : (a b : Bool) → a ≡ true → (a || b) ≡ true
+or-left a b h = cc
+
+or-right : (a b : Bool) → b ≡ true → (a || b) ≡ true
+or-right true b h = refl
+or-right false b h = h
+
+-- what a thread ended was ended
+ended_own : (k : ℕ) (journal : List Entry) (thread : ℕ) → list_any (λ step. ends k step.0) (own_entries journal thread) ≡ true →
+    list_any (λ entry. ends k entry.event) journal ≡ true
+ended_own k [] thread h = cc
+ended_own k (e ∷ es) thread h = at (eqb e.thread thread) (ended_own k es thread) h
+  where
+    own : Entry → Event × Reply
+    own x = (x.event, x.reply)
+
+    mine : List Entry
+    mine = filter (λ x. eqb x.thread thread) es
+
+    theirs : Bool
+    theirs = list_any (λ entry. ends k entry.event) es
+
+    at : (b : Bool) → (list_any (λ step. ends k step.0) (map own mine) ≡ true → theirs ≡ true) →
+        list_any (λ step. ends k step.0) (map own (cond b (e ∷ mine) mine)) ≡ true → (ends k e.event || theirs) ≡ true
+    at true later ended = elim (or_cases (ends k e.event) (list_any (λ step. ends k step.0) (map own mine)) ended) [
+      | inl here ↦ or-left (ends k e.event) theirs here
+      | inr there ↦ or-right (ends k e.event) theirs (later there)
+    ]
+    at false later ended = or-right (ends k e.event) theirs (later ended)
+
+not-true : (a b : Bool) → (b ≡ true → a ≡ true) → not a ≡ true → not b ≡ true
+not-true true b h none = cc
+not-true false true h none = cc (h refl)
+not-true false false h none = refl
+
+pub own_entries_tell_open_each : OwnEntriesTellOpen
+own_entries_tell_open_each journal thread none =
+    subst (λ (ks : List ℕ). filter (λ k. not (list_any (λ entry. ends k entry.event) journal)) ks ≡ []) (begun_own journal thread)
+    (filter-none (λ k. not (list_any (λ step. ends k step.0) (own_entries journal thread)))
+    (λ k. not (list_any (λ entry. ends k entry.event) journal))
+    (filter_map (λ step. begun_operation step.1) (own_entries journal thread))
+    (λ k. not-true (list_any (λ entry. ends k entry.event) journal) (list_any (λ step. ends k step.0) (own_entries journal thread)) (ended_own k journal thread))
+    none)
+
+-- what is a command by itself begins no operation
+pub begun-command : (files : Files) (journal : List Entry) (event : Event) (reply : Reply) →
+    is_command event ≡ true → IsReply files journal event reply → begun_operation reply ≡ None
+begun-command files journal (events.New name kind) reply command is =
+    ap begun_operation is ∙ new-each (λ r. begun_operation r ≡ None) journal (named journal name) refl (λ c. refl)
+begun-command files journal (events.Rule place name answer) reply command is =
+    ap begun_operation is ∙ rule-each (λ r. begun_operation r ≡ None) journal place refl (λ c. refl) (λ c. refl)
+begun-command files journal (events.Enter name) reply command is = absurd is
+begun-command files journal (events.EnterHandle handle) reply command is = absurd is
+begun-command files journal (events.Lookup context name version) reply command is = absurd is
+begun-command files journal (events.Ask step context name) reply command is = absurd is
+begun-command files journal (events.Publish context name candidate) reply command is = absurd is
+begun-command files journal (events.Place user key) reply command is = absurd is
+begun-command files journal (events.LoadStatic key field kind) reply command is = absurd is
+begun-command files journal (events.StoreStatic key field value) reply command is = absurd is
+begun-command files journal (events.Hold handle assembly method) reply command is = absurd is
+begun-command files journal (events.DropHandle handle) reply command is = absurd is
+begun-command files journal (events.Weak handle name) reply command is =
+    ap begun_operation is ∙ weak-each (λ r. begun_operation r ≡ None) (weakly journal handle) (named journal name) refl refl (λ c. refl)
+begun-command files journal (events.Alive handle) reply command is =
+    ap begun_operation is ∙ alive-each (λ r. begun_operation r ≡ None) journal (weakly journal handle) refl (λ c. refl) (λ c. refl)
+begun-command files journal (events.Unload name) reply command is =
+    ap begun_operation is ∙ unload-each (λ r. begun_operation r ≡ None) journal (named journal name) refl (λ c. refl) (λ c. refl) (λ c. refl)
+begun-command files journal events.Collect reply command is = ap begun_operation is.2
+begun-command files journal (events.Leave operation) reply command is = absurd is
+
+-- what a thread began by commands alone: nothing
+begun-commands : (files : Files) (before after : List Entry) (thread : ℕ) → IsLegal files (before ++ after) →
+    list_all (λ step. is_command step.0) (own_entries after thread) ≡ true →
+    filter_map (λ step. begun_operation step.1) (own_entries after thread) ≡ []
+begun-commands files before [] thread legal commands = refl
+begun-commands files before (e ∷ es) thread legal commands =
+    let here : IsReply files before e.event e.reply = legal before e es refl in
+    let later : IsLegal files ((before ++ e ∷ []) ++ es) = subst (IsLegal files) (sym (append_assoc before (e ∷ []) es)) legal in
+    at (eqb e.thread thread) (begun-commands files (before ++ e ∷ []) es thread later) (λ command. begun-command files before e.event e.reply command here) commands
+  where
+    own : Entry → Event × Reply
+    own x = (x.event, x.reply)
+
+    mine : List Entry
+    mine = filter (λ x. eqb x.thread thread) es
+
+    at : (b : Bool) →
+        (list_all (λ step. is_command step.0) (map own mine) ≡ true → filter_map (λ step. begun_operation step.1) (map own mine) ≡ []) →
+        (is_command e.event ≡ true → begun_operation e.reply ≡ None) →
+        list_all (λ step. is_command step.0) (map own (cond b (e ∷ mine) mine)) ≡ true →
+        filter_map (λ step. begun_operation step.1) (map own (cond b (e ∷ mine) mine)) ≡ []
+    at true later first all =
+        let parts = and_parts (is_command e.event) (list_all (λ step. is_command step.0) (map own mine)) all in
+        ap (λ o. cons_option o (filter_map (λ step. begun_operation step.1) (map own mine))) (first parts.0) ∙ later parts.1
+    at false later first all = later all
+
+-- a thread that has asked for commands alone is within no operation
+pub no_open-commands : (files : Files) (journal : List Entry) (thread : ℕ) → IsLegal files journal →
+    list_all (λ step. is_command step.0) (own_entries journal thread) ≡ true → HasNoOpen journal thread
+no_open-commands files journal thread legal commands =
+    own_entries_tell_open_each journal thread
+    (ap (filter (λ k. not (list_any (λ step. ends k step.0) (own_entries journal thread)))) (begun-commands files [] journal thread legal commands))

@@ -9,6 +9,7 @@ use Rattle.host_events.specs.declared.event.Event.{Event}
 use Rattle.host_events.specs.declared.reply.Reply.{Reply}
 use Rattle.host_events.specs.declared.journal.Entry.{Entry}
 use Rattle.host_events.specs.Contexts.{made_context, freed_contexts, makes, makes_collectible, unloads, made_count, is_made, is_freed, is_live, is_unloaded, is_collectible}
+use Rattle.host_events.specs.Files.{Files}
 use Rattle.host_events.specs.Journal.{IsLegal, Fits, IsProper, own_entries}
 use Rattle.host_events.specs.Reply.{IsReply}
 
@@ -85,19 +86,19 @@ push_parts (a ∷ xs) (b ∷ bs) after x y e =
       | inr p ↦ let s : xs ≡ bs ++ y ∷ p.0 = p.1 in inr (p.0, cc)
     ]
 
-pub IsLegal-push : (journal : List Entry) (entry : Entry) →
-    IsLegal journal → IsReply journal entry.event entry.reply → IsLegal (journal ++ entry ∷ [])
-IsLegal-push journal entry legal reply before at after e =
+pub IsLegal-push : (files : Files) (journal : List Entry) (entry : Entry) →
+    IsLegal files journal → IsReply files journal entry.event entry.reply → IsLegal files (journal ++ entry ∷ [])
+IsLegal-push files journal entry legal reply before at after e =
     elim (push_parts journal before after entry at e) [
-      | inl p ↦ subst (λ (x : Entry). IsReply before x.event x.reply) p.1 (subst (λ (j : List Entry). IsReply j entry.event entry.reply) p.0 reply)
+      | inl p ↦ subst (λ (x : Entry). IsReply files before x.event x.reply) p.1 (subst (λ (j : List Entry). IsReply files j entry.event entry.reply) p.0 reply)
       | inr p ↦ legal before at p.0 p.1
     ]
 
-pub IsProper-push : (journal : List Entry) (entry : Entry) →
-    IsProper journal → Fits journal entry.thread entry.event → IsReply journal entry.event entry.reply →
-    IsProper (journal ++ entry ∷ [])
-IsProper-push journal entry proper fits reply = record {
-  legal = IsLegal-push journal entry proper.legal reply;
+pub IsProper-push : (files : Files) (journal : List Entry) (entry : Entry) →
+    IsProper files journal → Fits journal entry.thread entry.event → IsReply files journal entry.event entry.reply →
+    IsProper files (journal ++ entry ∷ [])
+IsProper-push files journal entry proper fits reply = record {
+  legal = IsLegal-push files journal entry proper.legal reply;
   fits = λ before at after e. elim (push_parts journal before after entry at e) [
     | inl p ↦ subst (λ (x : Entry). Fits before x.thread x.event) p.1 (subst (λ (j : List Entry). Fits j entry.thread entry.event) p.0 fits)
     | inr p ↦ proper.fits before at p.0 p.1
@@ -110,13 +111,13 @@ pub parts-push : {X : Type 0} (xs before after : List X) (x y : X) → xs ≡ be
 parts-push xs before after x y e = ap (λ v. v ++ x ∷ []) e ∙ append_assoc before (y ∷ after) (x ∷ [])
 
 -- what holds after one more entry held before it
-pub IsLegal-before : (journal : List Entry) (entry : Entry) → IsLegal (journal ++ entry ∷ []) → IsLegal journal
-IsLegal-before journal entry legal before at after e =
+pub IsLegal-before : (files : Files) (journal : List Entry) (entry : Entry) → IsLegal files (journal ++ entry ∷ []) → IsLegal files journal
+IsLegal-before files journal entry legal before at after e =
     legal before at (after ++ entry ∷ []) (parts-push journal before after entry at e)
 
-pub IsProper-before : (journal : List Entry) (entry : Entry) → IsProper (journal ++ entry ∷ []) → IsProper journal
-IsProper-before journal entry proper = record {
-  legal = IsLegal-before journal entry proper.legal;
+pub IsProper-before : (files : Files) (journal : List Entry) (entry : Entry) → IsProper files (journal ++ entry ∷ []) → IsProper files journal
+IsProper-before files journal entry proper = record {
+  legal = IsLegal-before files journal entry proper.legal;
   fits = λ before at after e. proper.fits before at (after ++ entry ∷ []) (parts-push journal before after entry at e);
 }
 
@@ -124,8 +125,8 @@ nil_parts : {X : Type 0} (before after : List X) (y : X) → [] ≡ before ++ y 
 nil_parts [] after y e = cc
 nil_parts (b ∷ bs) after y e = cc
 
-pub IsProper-nil : IsProper []
-IsProper-nil = record {
+pub IsProper-nil : (files : Files) → IsProper files []
+IsProper-nil files = record {
   legal = λ before at after e. absurd (nil_parts before after at e);
   fits = λ before at after e. absurd (nil_parts before after at e);
 }

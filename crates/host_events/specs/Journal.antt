@@ -2,32 +2,47 @@
 use Rattle.std.specs.Prelude.{ℕ, ◌≡◌, ◌==◌, List, [], ◌∷◌, ◌++◌, map}
 use Rattle.std.specs.List.{filter}
 use Rattle.host_events.specs.declared.event.Event.{Event}
-use Rattle.host_events.specs.declared.event.Event.TheVariants.{New, Unload, Collect}
+use Rattle.host_events.specs.declared.event.Event.TheVariants as events
 use Rattle.host_events.specs.declared.reply.Reply.{Reply}
 use Rattle.host_events.specs.declared.journal.Entry.{Entry}
+use Rattle.host_events.specs.Files.{Files}
 use Rattle.host_events.specs.Operations.{open_operations}
 use Rattle.host_events.specs.Reply.{IsReply}
 
 -- each reply is the one that the entries before it determine
-abbrev pub IsLegal : List Entry → Type 0
-IsLegal journal =
+abbrev pub IsLegal : Files → List Entry → Type 0
+IsLegal files journal =
     (before : List Entry) (entry : Entry) (after : List Entry) →
-    journal ≡ before ++ entry ∷ after → IsReply before entry.event entry.reply
+    journal ≡ before ++ entry ∷ after → IsReply files before entry.event entry.reply
 
 -- the thread is within no operation
 abbrev pub HasNoOpen : List Entry → ℕ → Type 0
 HasNoOpen journal thread = open_operations journal thread ≡ []
 
 -- The thread may ask for the event after the journal: an event that is a command by itself comes where the
--- thread is within no operation.
+-- thread is within no operation. An event that is not built fits nowhere.
 abbrev pub Fits : List Entry → ℕ → Event → Type 0
-Fits journal thread (New name kind) = HasNoOpen journal thread
-Fits journal thread (Unload name) = HasNoOpen journal thread
-Fits journal thread Collect = HasNoOpen journal thread
+Fits journal thread (events.New name kind) = HasNoOpen journal thread
+Fits journal thread (events.Rule place name answer) = HasNoOpen journal thread
+Fits journal thread (events.Enter name) = ⊥
+Fits journal thread (events.EnterHandle handle) = ⊥
+Fits journal thread (events.Lookup context name version) = ⊥
+Fits journal thread (events.Ask step context name) = ⊥
+Fits journal thread (events.Publish context name candidate) = ⊥
+Fits journal thread (events.Place user key) = ⊥
+Fits journal thread (events.LoadStatic key field kind) = ⊥
+Fits journal thread (events.StoreStatic key field value) = ⊥
+Fits journal thread (events.Hold handle assembly method) = ⊥
+Fits journal thread (events.DropHandle handle) = ⊥
+Fits journal thread (events.Weak handle name) = HasNoOpen journal thread
+Fits journal thread (events.Alive handle) = HasNoOpen journal thread
+Fits journal thread (events.Unload name) = HasNoOpen journal thread
+Fits journal thread events.Collect = HasNoOpen journal thread
+Fits journal thread (events.Leave operation) = ⊥
 
 -- a legal journal, each entry of which came where it fits
-pub record IsProper (journal : List Entry) : Type 0 where
-  pub legal : IsLegal journal
+pub record IsProper (files : Files) (journal : List Entry) : Type 0 where
+  pub legal : IsLegal files journal
   pub fits : (before : List Entry) (entry : Entry) (after : List Entry) →
       journal ≡ before ++ entry ∷ after → Fits before entry.thread entry.event
 

@@ -1,7 +1,11 @@
 pub mod Contexts
+pub mod Files
+pub mod Flows
+pub mod Handles
 pub mod Journal
 pub mod Laws
 pub mod Operations
 pub mod Reachable
 pub mod Reply
 pub mod Reserved
+pub mod Steps

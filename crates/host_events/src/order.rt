@@ -1,3 +1,6 @@
+//! Orders and answers: what goes into the host, and what comes out of it.
+ghost use Rattle.std.specs.Prelude.{◌≡◌, ℕ};
+
 use crate::event::Event;
 use crate::reply::Reply;
 use crate::reserved::{Numbers, Text};
@@ -7,6 +10,7 @@ use crate::reserved::{Numbers, Text};
 pub struct Room {
     /// For the contexts that a `Collect` frees.
     pub numbers: Numbers,
+    /// For the text that a `LoadStatic` reads.
     pub first: Text,
     pub second: Text,
     pub third: Text,
@@ -17,15 +21,23 @@ pub struct Room {
 pub struct Order<C> {
     /// It goes into the journal.
     pub event: Event,
-    /// An event equal to `event`, for names that are kept beside the journal. No event's names are
-    /// yet: the host lets it go.
+    /// An event equal to `event`: its names, keys and texts go into the host's tables.
     pub again: Event,
-    /// The code of an assembly. No event publishes one yet: the host lets it go.
+    /// The code of the image that the event publishes.
     pub code: Option<C>,
     /// It goes into the journal's reply.
     pub room: Room,
     /// It goes into the answer's reply.
     pub copy: Room,
+}
+
+/// The code of an assembly, of which the host asks from what image it comes.
+pub trait Code {
+    ghost image: { Self → ℕ };
+
+    /// The image's number, counted from 1.
+    fn image(&self) -> u32
+        ensures { result ≡ image self.now };
 }
 
 /// Where the code of an assembly comes from.
@@ -41,7 +53,35 @@ pub struct CodeOf {
 #[derive(Debug, Drop)]
 pub struct Answer {
     pub reply: Reply,
-    /// Where the code of the assembly that the reply names comes from. No reply names one yet: it
-    /// is `None`.
+    /// Where the code of the assembly that the reply names comes from: `None` where the reply names
+    /// no assembly, or the platform.
     pub code: Option<CodeOf>,
+}
+
+/// An order, which asks for an event.
+pub trait HasEvent {
+    ghost use Rattle.host_events.specs.declared.event.Event.{Event};
+
+    ghost event: { Self → Event };
+}
+
+/// An answer, which tells a reply, and where the code of the assembly comes from that it names.
+pub trait HasReply {
+    ghost use Rattle.std.specs.Prelude.{Option};
+    ghost use Rattle.host_events.specs.declared.order.CodeOf.{CodeOf};
+    ghost use Rattle.host_events.specs.declared.reply.Reply.{Reply};
+
+    ghost reply: { Self → Reply };
+
+    ghost code: { Self → Option CodeOf };
+}
+
+impl<C> HasEvent for Order<C> {
+    ghost event = { λ order. order.event };
+}
+
+impl HasReply for Answer {
+    ghost reply = { λ answer. answer.reply };
+
+    ghost code = { λ answer. answer.code };
 }
