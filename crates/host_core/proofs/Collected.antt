@@ -8,10 +8,11 @@ use Rattle.host_events.proofs.Numbers.{number_of_live}
 use Rattle.std.proofs.lemmas.List.{length_push, get_or_append_left, get_or_push}
 use Rattle.std.proofs.lemmas.List.Elements.{Contains-push, Contains-push_cases, Contains-append_left, Contains-get_or}
 use Rattle.host_events.specs.declared.event.Event.{Event}
-use Rattle.host_events.specs.declared.event.Event.TheVariants.{New, Unload, Collect}
+use Rattle.host_events.specs.declared.event.Event.TheVariants as events
 use Rattle.host_events.specs.declared.reply.Reply.{Reply}
 use Rattle.host_events.specs.declared.journal.Entry.{Entry}
 use Rattle.host_events.specs.Contexts.{is_live, is_unloaded, made_count, IsUnloaded}
+use Rattle.host_events.specs.Files.{Files}
 use Rattle.host_events.specs.Journal.{IsLegal}
 use Rattle.host_events.specs.Reachable.{HasCause, IsRoot, IsPath, IsEdge, makes_edge}
 use Rattle.host_events.specs.Reachable.HasCause.{loaded}
@@ -90,9 +91,23 @@ IsCollectedBelow-more entries n old new false collected is now =
 
 -- no entry makes an edge, so a path leads from a context to itself alone
 no_edge_by : (journal : List Entry) (x y : ℕ) (event : Event) (reply : Reply) → makes_edge journal x y event reply ≡ false
-no_edge_by journal x y (New name kind) reply = refl
-no_edge_by journal x y (Unload name) reply = refl
-no_edge_by journal x y Collect reply = refl
+no_edge_by journal x y (events.New name kind) reply = refl
+no_edge_by journal x y (events.Rule place name answer) reply = refl
+no_edge_by journal x y (events.Enter name) reply = refl
+no_edge_by journal x y (events.EnterHandle handle) reply = refl
+no_edge_by journal x y (events.Lookup context name version) reply = refl
+no_edge_by journal x y (events.Ask step context name) reply = refl
+no_edge_by journal x y (events.Publish context name candidate) reply = refl
+no_edge_by journal x y (events.Place user key) reply = refl
+no_edge_by journal x y (events.LoadStatic key field kind) reply = refl
+no_edge_by journal x y (events.StoreStatic key field value) reply = refl
+no_edge_by journal x y (events.Hold handle assembly method) reply = refl
+no_edge_by journal x y (events.DropHandle handle) reply = refl
+no_edge_by journal x y (events.Weak handle name) reply = refl
+no_edge_by journal x y (events.Alive handle) reply = refl
+no_edge_by journal x y (events.Unload name) reply = refl
+no_edge_by journal x y events.Collect reply = refl
+no_edge_by journal x y (events.Leave operation) reply = refl
 
 no_edge_among : (journal entries : List Entry) (x y : ℕ) →
     list_any (λ e. makes_edge journal x y e.event e.reply) entries ≡ false
@@ -111,9 +126,9 @@ path_here entries (along {x = a} {y = b} edge path) = absurd (no_edge entries a 
 not_unloaded : (entries : List Entry) (c : ℕ) → HasCause entries c → ¬ IsUnloaded entries c
 not_unloaded entries c (loaded stays) = stays
 
-pub ListsUnkept-from_collected : (entries : List Entry) (n : ℕ) (list : List ℕ) → IsLegal entries →
+pub ListsUnkept-from_collected : (files : Files) (entries : List Entry) (n : ℕ) (list : List ℕ) → IsLegal files entries →
     made_count entries + 1 ≤ n → IsCollectedBelow entries n list → ListsUnkept entries list
-ListsUnkept-from_collected entries n list legal all collected = record {
+ListsUnkept-from_collected files entries n list legal all collected = record {
   rising = collected.rising;
   each = λ c. (
     (λ has.
@@ -125,7 +140,7 @@ ListsUnkept-from_collected entries n list legal all collected = record {
         )),
     (λ both. elim (cases_Bool (is_unloaded entries c)) [
       | inl unloaded ↦
-          let within = number_of_live entries c legal both.0 in
+          let within = number_of_live files entries c legal both.0 in
           collected.each c (omega arith) (and_from (is_unloaded entries c) (is_live entries c) unloaded both.0)
       | inr stays ↦
           absurd (both.1 (c, record { live = both.0; cause = loaded (λ unloaded. cc (unloaded, stays)) }, here))

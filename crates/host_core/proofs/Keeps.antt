@@ -1,63 +1,85 @@
 -- What one more entry leaves as it was in the host.
-use Rattle.std.proofs.Common.{◌≡◌, ℕ, ◌+◌, ◌<◌, ◌≤◌, Bool, true, false, not, ◌&&◌, eqb, cond, List, [], ◌∷◌, ◌++◌, length, Option, Some, None, refl, sym, ap, subst, ◌∙◌, inl, inr, arith}
+use Rattle.std.proofs.Common.{◌≡◌, ℕ, ◌+◌, ◌<◌, ◌≤◌, ◌^◌, Bool, true, false, ◌&&◌, eqb, cond, List, [], ◌∷◌, ◌++◌, length, refl, sym, ap, subst, ◌∙◌, inl, inr, arith}
 use Rattle.std.specs.Option.{is_some}
 use Rattle.std.specs.List.{filter}
 use Rattle.std.proofs.lemmas.Bool.{and_parts, cases_Bool, eqb-true}
 use Rattle.std.proofs.lemmas.List.{length-append, length_push}
 use Rattle.std.proofs.lemmas.List.Elements.{filter-append}
 use Rattle.host_events.specs.declared.event.Event.{Event}
-use Rattle.host_events.specs.declared.event.Event.TheVariants.{New, Unload, Collect}
+use Rattle.host_events.specs.declared.event.Event.TheVariants as events
 use Rattle.host_events.specs.declared.reply.Reply.{Reply}
-use Rattle.host_events.specs.declared.reply.Reply.TheVariants.{Fixed, Already, Unloading}
 use Rattle.host_events.specs.declared.journal.Entry.{Entry}
+use Rattle.host_events.specs.declared.order.Order.{Order}
 use Rattle.host_events.specs.declared.order.Room.{Room}
-use Rattle.host_events.specs.Contexts.{freed_contexts, made_context, made_count, is_collectible, is_unloaded, named}
-use Rattle.host_events.specs.Reply.{IsReply, reply_to_new, reply_to_unload}
-use Rattle.host_events.specs.Reserved.{Reserved}
+use Rattle.host_events.specs.Contexts.{freed_contexts, made_context, made_count, named}
+use Rattle.host_events.specs.Files.{Files}
+use Rattle.host_events.specs.Handles.{weakly}
+use Rattle.host_events.specs.Reply.{IsReply}
+use Rattle.host_events.specs.Steps.{entry_of}
+use Rattle.host_events.proofs.Cases.{alive-each, new-each, rule-each, unload-each, weak-each}
 use Rattle.host_events.proofs.Push.{IsProper-push}
-use Rattle.host_events.proofs.Numbers.{made-unload}
 use Rattle.host_core.specs.declared.bounds.Bounds.{Bounds}
-use Rattle.host_core.specs.Accepted.{HasRoom, IsAccepted, MayMake}
-use Rattle.host_core.specs.Allowed.{IsAllowed, used_events, used_contexts}
+use Rattle.host_core.specs.declared.bounds.Share.{Share}
+use Rattle.host_core.specs.Accepted.{HasRoom, IsAccepted, MayMake, numbers_due}
+use Rattle.host_core.specs.Allowed.{Fixed, IsAllowed, makes_context_by, makes_handle, makes_handle_by, sets_rule, sets_rule_by, used, used_events, used_contexts, used_handles, used_rules}
 use Rattle.host_core.specs.Bounds.{part_of}
-use Rattle.host_core.specs.Core.{Core, IsKeptUp}
-use Rattle.host_core.specs.Replies.{CanRetell, HasNumbers}
+use Rattle.host_core.specs.Core.{Core, IsKeptUp, fixed_by}
+use Rattle.host_core.specs.Replies.{CanRetell}
 use Rattle.host_core.proofs.Shares.{contexts-le, events-le}
+use Rattle.host_core.proofs.Used.{contexts-count, handles-count, rules-count}
 
 pub numbers-le : (bounds : Bounds) (journal : List Entry) (capacity : ℕ) → IsKeptUp bounds journal capacity →
     made_count journal + 1 ≤ bounds.contexts
 numbers-le bounds journal capacity kept =
-    omega (arith, contexts-le bounds journal kept.allowed, ap (λ b. b.contexts) kept.made_up)
+    omega (arith, contexts-le bounds.shares journal kept.allowed.contexts, ap (λ b. b.contexts) kept.allowed.made_up)
 
-pub HasNumbers-from_room : (n contexts : ℕ) (event : Event) (room : Room) →
-    n ≤ contexts → HasRoom contexts event room → HasNumbers n event room.numbers
-HasNumbers-from_room n contexts (New name kind) room few has = tt
-HasNumbers-from_room n contexts (Unload name) room few has = tt
-HasNumbers-from_room n contexts Collect room few has = (has.0.0, omega (arith, has.1))
+-- fewer contexts ask for no more room
+pub numbers_due-le : (n contexts : ℕ) (event : Event) → n ≤ contexts → numbers_due n event ≤ numbers_due contexts event
+numbers_due-le n contexts (events.New name kind) few = omega arith
+numbers_due-le n contexts (events.Rule place name answer) few = omega arith
+numbers_due-le n contexts (events.Enter name) few = omega arith
+numbers_due-le n contexts (events.EnterHandle handle) few = omega arith
+numbers_due-le n contexts (events.Lookup context name version) few = omega arith
+numbers_due-le n contexts (events.Ask step context name) few = omega arith
+numbers_due-le n contexts (events.Publish context name candidate) few = omega arith
+numbers_due-le n contexts (events.Place user key) few = omega arith
+numbers_due-le n contexts (events.LoadStatic key field kind) few = omega arith
+numbers_due-le n contexts (events.StoreStatic key field value) few = omega arith
+numbers_due-le n contexts (events.Hold handle assembly method) few = omega arith
+numbers_due-le n contexts (events.DropHandle handle) few = omega arith
+numbers_due-le n contexts (events.Weak handle name) few = omega arith
+numbers_due-le n contexts (events.Alive handle) few = omega arith
+numbers_due-le n contexts (events.Unload name) few = omega arith
+numbers_due-le n contexts events.Collect few = few
+numbers_due-le n contexts (events.Leave operation) few = omega arith
 
-CanRetell-new : (journal : List Entry) (o : Option ℕ) (room : Reserved ℕ) → CanRetell (reply_to_new journal o) room
-CanRetell-new journal None room = tt
-CanRetell-new journal (Some c) room = tt
-
-CanRetell-unload : (journal : List Entry) (o : Option ℕ) (room : Reserved ℕ) → CanRetell (reply_to_unload journal o) room
-CanRetell-unload journal None room = tt
-CanRetell-unload journal (Some c) room = at (not (is_collectible journal c)) (is_unloaded journal c)
-  where
-    at : (fixed already : Bool) → CanRetell (cond fixed (Fixed c) (cond already (Already c) (Unloading c))) room
-    at true already = tt
-    at false true = tt
-    at false false = tt
-
-pub CanRetell-from_room : (n contexts : ℕ) (journal : List Entry) (event : Event) (reply : Reply) (room : Room) →
-    IsReply journal event reply → length (freed_contexts reply) ≤ n → n ≤ contexts → HasRoom contexts event room →
-    CanRetell reply room.numbers
-CanRetell-from_room n contexts journal (New name kind) reply room is few all has =
-    subst (λ r. CanRetell r room.numbers) (sym is) (CanRetell-new journal (named journal name) room.numbers)
-CanRetell-from_room n contexts journal (Unload name) reply room is few all has =
-    subst (λ r. CanRetell r room.numbers) (sym is) (CanRetell-unload journal (named journal name) room.numbers)
-CanRetell-from_room n contexts journal Collect reply room is few all has =
-    subst (λ r. CanRetell r room.numbers) (sym is.2)
+pub CanRetell-from_room : (n contexts : ℕ) (files : Files) (journal : List Entry) (event : Event) (reply : Reply) (room : Room) →
+    IsReply files journal event reply → length (freed_contexts reply) ≤ n → n ≤ contexts → HasRoom contexts event room →
+    CanRetell reply room
+CanRetell-from_room n contexts files journal (events.New name kind) reply room is few all has =
+    subst (λ r. CanRetell r room) (sym is) (new-each (λ r. CanRetell r room) journal (named journal name) tt (λ c. tt))
+CanRetell-from_room n contexts files journal (events.Rule place name answer) reply room is few all has =
+    subst (λ r. CanRetell r room) (sym is) (rule-each (λ r. CanRetell r room) journal place tt (λ c. tt) (λ c. tt))
+CanRetell-from_room n contexts files journal (events.Enter name) reply room is few all has = absurd is
+CanRetell-from_room n contexts files journal (events.EnterHandle handle) reply room is few all has = absurd is
+CanRetell-from_room n contexts files journal (events.Lookup context name version) reply room is few all has = absurd is
+CanRetell-from_room n contexts files journal (events.Ask step context name) reply room is few all has = absurd is
+CanRetell-from_room n contexts files journal (events.Publish context name candidate) reply room is few all has = absurd is
+CanRetell-from_room n contexts files journal (events.Place user key) reply room is few all has = absurd is
+CanRetell-from_room n contexts files journal (events.LoadStatic key field kind) reply room is few all has = absurd is
+CanRetell-from_room n contexts files journal (events.StoreStatic key field value) reply room is few all has = absurd is
+CanRetell-from_room n contexts files journal (events.Hold handle assembly method) reply room is few all has = absurd is
+CanRetell-from_room n contexts files journal (events.DropHandle handle) reply room is few all has = absurd is
+CanRetell-from_room n contexts files journal (events.Weak handle name) reply room is few all has =
+    subst (λ r. CanRetell r room) (sym is) (weak-each (λ r. CanRetell r room) (weakly journal handle) (named journal name) tt tt (λ c. tt))
+CanRetell-from_room n contexts files journal (events.Alive handle) reply room is few all has =
+    subst (λ r. CanRetell r room) (sym is) (alive-each (λ r. CanRetell r room) journal (weakly journal handle) tt (λ c. tt) (λ c. tt))
+CanRetell-from_room n contexts files journal (events.Unload name) reply room is few all has =
+    subst (λ r. CanRetell r room) (sym is) (unload-each (λ r. CanRetell r room) journal (named journal name) tt (λ c. tt) (λ c. tt) (λ c. tt))
+CanRetell-from_room n contexts files journal events.Collect reply room is few all has =
+    subst (λ r. CanRetell r room) (sym is.2)
     (refl, has.0.0, omega (arith, has.1, ap (λ r. length (freed_contexts r)) is.2))
+CanRetell-from_room n contexts files journal (events.Leave operation) reply room is few all has = absurd is
 
 length-filter_push : {X : Type 0} (p : X → Bool) (xs : List X) (x : X) →
     length (filter p (xs ++ x ∷ [])) ≡ length (filter p xs) + cond (p x) 1 0
@@ -68,69 +90,151 @@ length-filter_push p xs x =
     one true = refl
     one false = refl
 
--- a reply that makes a context comes to a `New` alone
-may_make : (bounds : Bounds) (journal : List Entry) (thread : ℕ) (event : Event) (reply : Reply) →
-    IsReply journal event reply → is_some (made_context reply) ≡ true → MayMake bounds journal thread event →
+-- what an event can make it may make where the thread may ask for it
+may_make_context : (bounds : Bounds) (journal : List Entry) (thread : ℕ) (event : Event) →
+    makes_context_by event ≡ true → MayMake bounds journal thread event →
     used_contexts journal thread < part_of (λ share. share.contexts) bounds.shares thread
-may_make bounds journal thread (New name kind) reply is makes may = may
-may_make bounds journal thread (Unload name) reply is makes may =
-    cc (ap (λ r. is_some (made_context r)) is, ap is_some (made-unload journal (named journal name)))
-may_make bounds journal thread Collect reply is makes may = cc (ap (λ r. is_some (made_context r)) is.2)
+may_make_context bounds journal thread (events.New name kind) makes may = may
+may_make_context bounds journal thread (events.Rule place name answer) makes may = cc
+may_make_context bounds journal thread (events.Enter name) makes may = cc
+may_make_context bounds journal thread (events.EnterHandle handle) makes may = cc
+may_make_context bounds journal thread (events.Lookup context name version) makes may = cc
+may_make_context bounds journal thread (events.Ask step context name) makes may = cc
+may_make_context bounds journal thread (events.Publish context name candidate) makes may = cc
+may_make_context bounds journal thread (events.Place user key) makes may = cc
+may_make_context bounds journal thread (events.LoadStatic key field kind) makes may = cc
+may_make_context bounds journal thread (events.StoreStatic key field value) makes may = cc
+may_make_context bounds journal thread (events.Hold handle assembly method) makes may = cc
+may_make_context bounds journal thread (events.DropHandle handle) makes may = cc
+may_make_context bounds journal thread (events.Weak handle name) makes may = cc
+may_make_context bounds journal thread (events.Alive handle) makes may = cc
+may_make_context bounds journal thread (events.Unload name) makes may = cc
+may_make_context bounds journal thread events.Collect makes may = cc
+may_make_context bounds journal thread (events.Leave operation) makes may = cc
 
-pub IsAllowed-push : (bounds : Bounds) (journal : List Entry) (thread : ℕ) (event again : Event) (room copy : Room) (reply : Reply) →
-    IsAllowed bounds journal → IsAccepted bounds journal thread event again room copy → IsReply journal event reply →
-    IsAllowed bounds (journal ++ (record { thread = thread; event = event; reply = reply }) ∷ [])
-IsAllowed-push bounds journal thread event again room copy reply allowed accepted is =
-    let entry : Entry = record { thread = thread; event = event; reply = reply } in
+may_make_handle : (bounds : Bounds) (journal : List Entry) (thread : ℕ) (event : Event) →
+    makes_handle_by event ≡ true → MayMake bounds journal thread event →
+    used_handles journal thread < part_of (λ share. share.handles) bounds.shares thread
+may_make_handle bounds journal thread (events.New name kind) makes may = cc
+may_make_handle bounds journal thread (events.Rule place name answer) makes may = cc
+may_make_handle bounds journal thread (events.Enter name) makes may = cc
+may_make_handle bounds journal thread (events.EnterHandle handle) makes may = cc
+may_make_handle bounds journal thread (events.Lookup context name version) makes may = cc
+may_make_handle bounds journal thread (events.Ask step context name) makes may = cc
+may_make_handle bounds journal thread (events.Publish context name candidate) makes may = cc
+may_make_handle bounds journal thread (events.Place user key) makes may = cc
+may_make_handle bounds journal thread (events.LoadStatic key field kind) makes may = cc
+may_make_handle bounds journal thread (events.StoreStatic key field value) makes may = cc
+may_make_handle bounds journal thread (events.Hold handle assembly method) makes may = may
+may_make_handle bounds journal thread (events.DropHandle handle) makes may = cc
+may_make_handle bounds journal thread (events.Weak handle name) makes may = may
+may_make_handle bounds journal thread (events.Alive handle) makes may = cc
+may_make_handle bounds journal thread (events.Unload name) makes may = cc
+may_make_handle bounds journal thread events.Collect makes may = cc
+may_make_handle bounds journal thread (events.Leave operation) makes may = cc
+
+may_set_rule : (bounds : Bounds) (journal : List Entry) (thread : ℕ) (event : Event) →
+    sets_rule_by event ≡ true → MayMake bounds journal thread event →
+    used_rules journal thread < part_of (λ share. share.rules) bounds.shares thread
+may_set_rule bounds journal thread (events.New name kind) makes may = cc
+may_set_rule bounds journal thread (events.Rule place name answer) makes may = may
+may_set_rule bounds journal thread (events.Enter name) makes may = cc
+may_set_rule bounds journal thread (events.EnterHandle handle) makes may = cc
+may_set_rule bounds journal thread (events.Lookup context name version) makes may = cc
+may_set_rule bounds journal thread (events.Ask step context name) makes may = cc
+may_set_rule bounds journal thread (events.Publish context name candidate) makes may = cc
+may_set_rule bounds journal thread (events.Place user key) makes may = cc
+may_set_rule bounds journal thread (events.LoadStatic key field kind) makes may = cc
+may_set_rule bounds journal thread (events.StoreStatic key field value) makes may = cc
+may_set_rule bounds journal thread (events.Hold handle assembly method) makes may = cc
+may_set_rule bounds journal thread (events.DropHandle handle) makes may = cc
+may_set_rule bounds journal thread (events.Weak handle name) makes may = cc
+may_set_rule bounds journal thread (events.Alive handle) makes may = cc
+may_set_rule bounds journal thread (events.Unload name) makes may = cc
+may_set_rule bounds journal thread events.Collect makes may = cc
+may_set_rule bounds journal thread (events.Leave operation) makes may = cc
+
+-- what a thread used of something stays within its part where it may use more of it
+used-push : (test : Reply → Bool) (part : Share → ℕ) (shares : List Share) (journal : List Entry) (thread : ℕ) (event : Event) (reply : Reply) →
+    ((t : ℕ) → used test journal t ≤ part_of part shares t) → (test reply ≡ true → used test journal thread < part_of part shares thread) →
+    (t : ℕ) → used test (journal ++ entry_of thread event reply ∷ []) t ≤ part_of part shares t
+used-push test part shares journal thread event reply within may t =
+    let more = length-filter_push (λ e. eqb e.thread t && test e.reply) journal (entry_of thread event reply) in
+    elim (cases_Bool (eqb thread t && test reply)) [
+      | inl both ↦
+          let parts = and_parts (eqb thread t) (test reply) both in
+          let same : thread ≡ t = eqb-true thread t parts.0 in
+          let left = subst (λ k. used test journal k < part_of part shares k) same (may parts.1) in
+          omega (arith, more, left, ap (λ b. cond {A = ℕ} b 1 0) both)
+      | inr other ↦ omega (arith, more, within t, ap (λ b. cond {A = ℕ} b 1 0) other)
+    ]
+
+used_events-push : (shares : List Share) (journal : List Entry) (thread : ℕ) (event : Event) (reply : Reply) →
+    ((t : ℕ) → used_events journal t ≤ part_of (λ share. share.events) shares t) →
+    used_events journal thread < part_of (λ share. share.events) shares thread →
+    (t : ℕ) → used_events (journal ++ entry_of thread event reply ∷ []) t ≤ part_of (λ share. share.events) shares t
+used_events-push shares journal thread event reply within fewer t =
+    let more = length-filter_push (λ e. eqb e.thread t) journal (entry_of thread event reply) in
+    elim (cases_Bool (eqb thread t)) [
+      | inl own ↦
+          let same : thread ≡ t = eqb-true thread t own in
+          let left = subst (λ k. used_events journal k < part_of (λ share. share.events) shares k) same fewer in
+          omega (arith, more, left, ap (λ b. cond {A = ℕ} b 1 0) own)
+      | inr other ↦ omega (arith, more, within t, ap (λ b. cond {A = ℕ} b 1 0) other)
+    ]
+
+-- all entries are within the bounds, one more included
+length-le : {C : Type 0} (fixed : Fixed) (journal : List Entry) (thread : ℕ) (order : Order C) (reply : Reply) →
+    IsAllowed fixed journal → IsAccepted fixed journal thread order →
+    length (journal ++ entry_of thread order.event reply ∷ []) ≤ fixed.bounds.events
+length-le fixed journal thread order reply allowed accepted =
+    omega (
+      arith,
+      events-le fixed.bounds.shares (journal ++ entry_of thread order.event reply ∷ [])
+          (used_events-push fixed.bounds.shares journal thread order.event reply allowed.events accepted.events),
+      ap (λ b. b.events) allowed.made_up,
+    )
+
+pub IsAllowed-push : {C : Type 0} (fixed : Fixed) (journal : List Entry) (thread : ℕ) (order : Order C) (reply : Reply) →
+    fixed.bounds.events < 2 ^ 32 → IsAllowed fixed journal → IsAccepted fixed journal thread order →
+    IsReply fixed.files journal order.event reply → IsAllowed fixed (journal ++ entry_of thread order.event reply ∷ [])
+IsAllowed-push fixed journal thread order reply short allowed accepted is =
+    let shares = fixed.bounds.shares in
+    let may = accepted.makes in
     record {
-      proper = IsProper-push journal entry allowed.proper accepted.fits is;
-      events = λ t.
-          let more = length-filter_push (λ e. eqb e.thread t) journal entry in
-          elim (cases_Bool (eqb thread t)) [
-            | inl own ↦
-                let same : thread ≡ t = eqb-true thread t own in
-                let left = subst (λ k. used_events journal k < part_of (λ share. share.events) bounds.shares k) same accepted.events in
-                omega (arith, more, left, ap (λ b. cond {A = ℕ} b 1 0) own)
-            | inr other ↦ omega (arith, more, allowed.events t, ap (λ b. cond {A = ℕ} b 1 0) other)
-          ];
-      contexts = λ t.
-          let more = length-filter_push (λ e. eqb e.thread t && is_some (made_context e.reply)) journal entry in
-          elim (cases_Bool (eqb thread t && is_some (made_context reply))) [
-            | inl both ↦
-                let parts = and_parts (eqb thread t) (is_some (made_context reply)) both in
-                let same : thread ≡ t = eqb-true thread t parts.0 in
-                let left = subst (λ k. used_contexts journal k < part_of (λ share. share.contexts) bounds.shares k) same
-                (may_make bounds journal thread event reply is parts.1 accepted.contexts) in
-                omega (arith, more, left, ap (λ b. cond {A = ℕ} b 1 0) both)
-            | inr other ↦ omega (arith, more, allowed.contexts t, ap (λ b. cond {A = ℕ} b 1 0) other)
-          ];
+      proper = IsProper-push fixed.files journal (entry_of thread order.event reply) allowed.proper accepted.fits is;
+      made_up = allowed.made_up;
+      numbered = allowed.numbered;
+      few = omega (arith, length-le fixed journal thread order reply allowed accepted);
+      events = used_events-push shares journal thread order.event reply allowed.events accepted.events;
+      contexts = used-push (λ r. is_some (made_context r)) (λ share. share.contexts) shares journal thread order.event reply allowed.contexts
+          (λ makes. may_make_context fixed.bounds journal thread order.event (contexts-count fixed.files journal order.event reply is makes) may);
+      handles = used-push makes_handle (λ share. share.handles) shares journal thread order.event reply allowed.handles
+          (λ makes. may_make_handle fixed.bounds journal thread order.event (handles-count fixed.files journal order.event reply is makes) may);
+      rules = used-push sets_rule (λ share. share.rules) shares journal thread order.event reply allowed.rules
+          (λ makes. may_set_rule fixed.bounds journal thread order.event (rules-count fixed.files journal order.event reply is makes) may);
     }
 
 -- the condition of an order, at two spellings of the host
-pub IsAccepted-same : {host now : Core} {thread : ℕ} {event again : Event} {room copy : Room} → host ≡ now →
-    IsAccepted now.bounds now.journal thread event again room copy →
-    IsAccepted host.bounds host.journal thread event again room copy
-IsAccepted-same {host} {now} {thread} {event} {again} {room} {copy} same accepted =
-    subst (λ (v : Core). IsAccepted v.bounds v.journal thread event again room copy) (sym same) accepted
+pub IsAccepted-same : {C : Type 0} {host now : Core} {thread : ℕ} {order : Order C} → host ≡ now →
+    IsAccepted now.fixed now.journal thread order → IsAccepted host.fixed host.journal thread order
+IsAccepted-same {C} {host} {now} {thread} {order} same accepted =
+    subst (λ (v : Core). IsAccepted v.fixed v.journal thread order) (sym same) accepted
 
 -- there is room for the entry of an order
-pub length-lt : {bounds : Bounds} {journal : List Entry} {capacity thread : ℕ} {event again : Event} {room copy : Room} (reply : Reply) →
-    IsKeptUp bounds journal capacity → IsAccepted bounds journal thread event again room copy → IsReply journal event reply →
-    length journal < capacity
-length-lt {bounds} {journal} {capacity} {thread} {event} {again} {room} {copy} reply kept accepted is =
-    let entry : Entry = record { thread = thread; event = event; reply = reply } in
-    let allowed = IsAllowed-push bounds journal thread event again room copy reply kept.allowed accepted is in
-    omega (arith, events-le bounds (journal ++ entry ∷ []) allowed, length_push journal entry, ap (λ b. b.events) kept.made_up, kept.room)
+pub length-lt : {C : Type 0} {bounds : Bounds} {journal : List Entry} {capacity thread : ℕ} {order : Order C} (reply : Reply) →
+    IsKeptUp bounds journal capacity → IsAccepted (fixed_by bounds) journal thread order → length journal < capacity
+length-lt {C} {bounds} {journal} {capacity} {thread} {order} reply kept accepted =
+    omega (arith, length-le (fixed_by bounds) journal thread order reply kept.allowed accepted, length_push journal (entry_of thread order.event reply), kept.room)
 
 -- the host's type keeps the same after the entry
-pub IsKeptUp-push : {bounds : Bounds} {journal : List Entry} {capacity thread : ℕ} {event again : Event} {room copy : Room} (reply : Reply) →
-    IsKeptUp bounds journal capacity → IsAccepted bounds journal thread event again room copy → IsReply journal event reply →
-    (items : List Entry) (grown : ℕ) → items ≡ journal ++ (record { thread = thread; event = event; reply = reply }) ∷ [] →
+pub IsKeptUp-push : {C : Type 0} {bounds : Bounds} {journal : List Entry} {capacity thread : ℕ} {order : Order C} (reply : Reply) →
+    IsKeptUp bounds journal capacity → IsAccepted (fixed_by bounds) journal thread order → IsReply (fixed_by bounds).files journal order.event reply →
+    (items : List Entry) (grown : ℕ) → items ≡ journal ++ entry_of thread order.event reply ∷ [] →
     capacity ≤ grown → IsKeptUp bounds items grown
-IsKeptUp-push {bounds} {journal} {capacity} {thread} {event} {again} {room} {copy} reply kept accepted is items grown now more = record {
-  allowed = subst (λ j. IsAllowed bounds j) (sym now)
-      (IsAllowed-push bounds journal thread event again room copy reply kept.allowed accepted is);
-  made_up = kept.made_up;
-  numbered = kept.numbered;
+IsKeptUp-push {C} {bounds} {journal} {capacity} {thread} {order} reply kept accepted is items grown now more = record {
+  allowed = subst (λ j. IsAllowed (fixed_by bounds) j) (sym now)
+      (IsAllowed-push (fixed_by bounds) journal thread order reply kept.events kept.allowed accepted is);
+  events = kept.events;
   room = omega (arith, kept.room);
 }

@@ -2,3 +2,4 @@ pub mod Collected
 pub mod Keeps
 pub mod Scans
 pub mod Shares
+pub mod Used

@@ -11,8 +11,7 @@ use Rattle.std.proofs.lemmas.Option.{slice_get_cases}
 use Rattle.host_events.specs.declared.journal.Entry.{Entry}
 use Rattle.host_events.specs.Contexts.{made_context, made_count}
 use Rattle.host_core.specs.declared.bounds.Share.{Share}
-use Rattle.host_core.specs.declared.bounds.Bounds.{Bounds}
-use Rattle.host_core.specs.Allowed.{IsAllowed}
+use Rattle.host_core.specs.Allowed.{used_contexts, used_events}
 use Rattle.host_core.specs.Bounds.{part_of}
 
 length_cond : {X : Type 0} (b : Bool) (x : X) (xs : List X) → length (cond b (x ∷ xs) xs) ≡ cond b 1 0 + length xs
@@ -118,25 +117,27 @@ length-filter_map f [] = refl
 length-filter_map f (x ∷ xs) =
     omega (arith, length-cons_option (f x) (filter_map f xs), length_cond (is_some (f x)) x (filter (λ y. is_some (f y)) xs), length-filter_map f xs)
 
-pub events-le : (bounds : Bounds) (journal : List Entry) → IsAllowed bounds journal →
-    length journal ≤ sum_by (λ share. share.events) bounds.shares
-events-le bounds journal allowed =
+pub events-le : (shares : List Share) (journal : List Entry) →
+    ((thread : ℕ) → used_events journal thread ≤ part_of (λ share. share.events) shares thread) →
+    length journal ≤ sum_by (λ share. share.events) shares
+events-le shares journal within =
     omega (
       arith,
       ap length (filter-all journal),
-      count-le_sum (λ share. share.events) (λ _. true) bounds.shares journal (λ thread.
+      count-le_sum (λ share. share.events) (λ _. true) shares journal (λ thread.
           omega (
             arith,
-            allowed.events thread,
+            within thread,
             ap length (filter_agree (λ e. eqb e.thread thread && true) (λ e. eqb e.thread thread) (λ e. and-true (eqb e.thread thread)) journal),
           )),
     )
 
-pub contexts-le : (bounds : Bounds) (journal : List Entry) → IsAllowed bounds journal →
-    made_count journal ≤ sum_by (λ share. share.contexts) bounds.shares
-contexts-le bounds journal allowed =
+pub contexts-le : (shares : List Share) (journal : List Entry) →
+    ((thread : ℕ) → used_contexts journal thread ≤ part_of (λ share. share.contexts) shares thread) →
+    made_count journal ≤ sum_by (λ share. share.contexts) shares
+contexts-le shares journal within =
     omega (
       arith,
       length-filter_map (λ e. made_context e.reply) journal,
-      count-le_sum (λ share. share.contexts) (λ e. is_some (made_context e.reply)) bounds.shares journal allowed.contexts,
+      count-le_sum (λ share. share.contexts) (λ e. is_some (made_context e.reply)) shares journal within,
     )

@@ -1,10 +1,12 @@
 //! What the entries say of contexts, found by going through them.
-ghost use Rattle.std.specs.Prelude.{◌≡◌, ◌+◌, ◌<◌, ◌^◌, ◌==◌};
+ghost use Rattle.std.specs.Prelude.{◌≡◌, ◌==◌, if◌then◌else◌, is_some};
 ghost use Rattle.std.specs.List.{filter, filter_map, list_any, last_or};
 ghost use Rattle.std.specs.Option.{option_to_list};
-ghost use Rattle.host_events.specs.Contexts.{made_context, freed_contexts, made_under, makes};
-ghost use Rattle.host_events.specs.Contexts.{makes_collectible, unloads, made_count, is_made};
-ghost use Rattle.host_events.specs.Contexts.{is_freed, is_live, is_unloaded, is_collectible, named};
+ghost use Rattle.host_events.specs.Contexts.{made_context, freed_contexts, unloading_context};
+ghost use Rattle.host_events.specs.Contexts.{is_number, is_unload, is_new_of, is_new_collectible};
+ghost use Rattle.host_events.specs.Contexts.{made_under, makes, makes_collectible, unloads};
+ghost use Rattle.host_events.specs.Contexts.{made_count, is_made, is_freed, is_live, is_unloaded};
+ghost use Rattle.host_events.specs.Contexts.{is_collectible, named};
 
 use host_events::{ContextKind, Entry, Event, Reply};
 
@@ -12,10 +14,21 @@ use host_events::{ContextKind, Entry, Event, Reply};
 pub(crate) fn made_count(entries: &[Entry]) -> usize
     ensures { result ≡ made_count entries.now }
 {
-    entries
-        .iter()
-        .filter_map(|entry| made(&entry.reply))
-        .count()
+    let mut count = 0;
+    for entry in entries {
+        count += made_by(&entry.reply);
+    }
+    count
+}
+
+/// How many contexts the reply says were made: one or none.
+fn made_by(reply: &Reply) -> usize
+    ensures { result ≡ if is_some (made_context reply.now) then 1 else 0 }
+{
+    match made(reply) {
+        Some(_) => 1,
+        None => 0,
+    }
 }
 
 /// Whether the context is there: made and not freed. Context 0 always is.
@@ -34,9 +47,16 @@ fn is_made(entries: &[Entry], context: u32) -> bool
 fn makes(reply: &Reply, context: u32) -> bool
     ensures { result ≡ makes context reply.now }
 {
-    match reply {
-        Reply::Made(made) => *made == context,
-        _ => false,
+    is_number(made(reply), context)
+}
+
+/// Whether there is a number, and it is this one.
+fn is_number(found: Option<u32>, number: u32) -> bool
+    ensures { result ≡ is_number number found }
+{
+    match found {
+        Some(other) => other == number,
+        None => false,
     }
 }
 
@@ -71,9 +91,21 @@ pub(crate) fn is_unloaded(entries: &[Entry], context: u32) -> bool
 fn unloads(entry: &Entry, context: u32) -> bool
     ensures { result ≡ unloads context entry.now.event entry.now.reply }
 {
-    match (&entry.event, &entry.reply) {
-        (Event::Unload { .. }, Reply::Unloading(unloaded)) => *unloaded == context,
-        _ => false,
+    is_unload(&entry.event) && is_number(unloading(&entry.reply), context)
+}
+
+fn is_unload(event: &Event) -> bool
+    ensures { result ≡ is_unload event.now }
+{
+    matches!(event, Event::Unload { .. })
+}
+
+fn unloading(reply: &Reply) -> Option<u32>
+    ensures { result ≡ unloading_context reply.now }
+{
+    match reply {
+        Reply::Unloading(context) => Some(*context),
+        _ => None,
     }
 }
 
@@ -89,11 +121,14 @@ pub(crate) fn is_collectible(entries: &[Entry], context: u32) -> bool
 fn makes_collectible(entry: &Entry, context: u32) -> bool
     ensures { result ≡ makes_collectible context entry.now.event entry.now.reply }
 {
-    match &entry.event {
-        Event::New {
-            kind: ContextKind::Collectible,
-            ..
-        } => makes(&entry.reply, context),
+    is_new_collectible(&entry.event) && makes(&entry.reply, context)
+}
+
+fn is_new_collectible(event: &Event) -> bool
+    ensures { result ≡ is_new_collectible event.now }
+{
+    match event {
+        Event::New { kind, .. } => *kind == ContextKind::Collectible,
         _ => false,
     }
 }
@@ -134,9 +169,19 @@ fn last_of(entries: &[Entry], before: Option<u32>, made: Option<u32>) -> Option<
 fn made_under(name: &[u8], entry: &Entry) -> Option<u32>
     ensures { result ≡ made_under name.now entry.now.event entry.now.reply }
 {
-    match &entry.event {
-        Event::New { name: other, .. } if other.bytes() == name => made(&entry.reply),
-        _ => None,
+    if is_new_of(name, &entry.event) {
+        made(&entry.reply)
+    } else {
+        None
+    }
+}
+
+fn is_new_of(name: &[u8], event: &Event) -> bool
+    ensures { result ≡ is_new_of name.now event.now }
+{
+    match event {
+        Event::New { name: other, .. } => other.bytes() == name,
+        _ => false,
     }
 }
 

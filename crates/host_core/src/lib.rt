@@ -4,6 +4,7 @@
 
 mod bounds;
 mod contexts;
+mod handles;
 mod host;
 mod replies;
 #[cfg(test)]

@@ -1,11 +1,17 @@
-ghost use Rattle.std.specs.Prelude.{ℕ, ◌≡◌, ◌≤◌, ◌<◌, ◌^◌, [], ◌∷◌, IfOk, length};
-ghost use Rattle.host_core.specs.Accepted.{HasRoom, room_for};
+ghost use Rattle.std.specs.Prelude.{ℕ, ◌≡◌, ◌≤◌, true, [], ◌∷◌, List, IfOk, length};
+ghost use Rattle.host_events.specs.declared.journal.Entry.{Entry};
+ghost use Rattle.host_events.specs.Journal.{Fits, HasNoOpen};
+ghost use Rattle.host_events.specs.Operations.{is_command};
+ghost use Rattle.host_core.specs.Accepted.{room_for};
+ghost use Rattle.host_core.specs.Allowed.{IsAllowed};
 ghost use Rattle.host_core.specs.Bounds.{bounds_of};
+ghost use Rattle.host_core.specs.Core.{fixed_by};
 
 use crate::bounds::{Bounds, Share};
 use crate::host::HostCore;
-use cli_words::{Name, NameFault};
-use host_events::{ContextKind, Event, Order, Reply, Reserved, Room};
+use assembly_name::SimpleName;
+use cli_words::{Name, Units};
+use host_events::{ContextKind, Event, Order, Reply, Reserved, Room, RuleAnswer, RuleAt};
 use std::alloc::{AllocError, Global};
 use std::test::Fail;
 use std::thread;
@@ -15,65 +21,76 @@ use std::thread;
 enum Ask<'a> {
     New(&'a [u8]),
     Fixed(&'a [u8]),
+    Resolve,
+    Weak(&'a [u8]),
+    Alive(&'a [u8]),
     Unload(&'a [u8]),
     Collect,
 }
 
-use Ask::{Collect, Fixed, New, Unload};
+use Ask::{Alive, Collect, Fixed, New, Resolve, Unload, Weak};
 
-/// An event twice, and how many numbers its reply may list.
-#[derive(Drop)]
-struct Twin {
-    event: Event,
-    again: Event,
-    spare: u32,
-}
-
-fn names(alloc: Global, name: &[u8]) -> Result<(Name, Name), NameFault>
+/// A name twice.
+fn names(alloc: Global, name: &[u8]) -> Result<(Name, Name), Fail>
     ensures { IfOk result (λ names. names.1 ≡ names.0) }
 {
     let name = Name::new(alloc, name)?;
-    let again = name.share(alloc).map_err(|_| NameFault::OutOfMemory)?;
+    let again = name.share(alloc)?;
     Ok((name, again))
 }
 
-fn new_twin(alloc: Global, name: &[u8], kind: ContextKind) -> Result<Twin, NameFault>
-    ensures same { IfOk result (λ twin. twin.again ≡ twin.event) }
-    ensures room { (n : ℕ) → IfOk result (λ twin. HasRoom n twin.event (room_for twin.spare)) }
+/// A rule of AssemblyResolve that answers nothing, for an assembly with no name.
+fn resolve(alloc: Global) -> Result<Event, AllocError>
+    ensures { IfOk result (λ event. event ≡ Event.Rule RuleAt.Resolve [] RuleAnswer.Nothing) }
 {
-    let (name, again) = names(alloc, name)?;
-    Ok(Twin {
-        event: Event::New { name, kind },
-        again: Event::New { name: again, kind },
-        spare: 0,
+    let units = Units::of(alloc, Vec::new(alloc))?;
+    Ok(Event::Rule {
+        place: RuleAt::Resolve,
+        name: SimpleName::of(units),
+        answer: RuleAnswer::Nothing,
     })
 }
 
-fn unload_twin(alloc: Global, name: &[u8]) -> Result<Twin, NameFault>
-    ensures same { IfOk result (λ twin. twin.again ≡ twin.event) }
-    ensures room { (n : ℕ) → IfOk result (λ twin. HasRoom n twin.event (room_for twin.spare)) }
-{
-    let (name, again) = names(alloc, name)?;
-    Ok(Twin {
-        event: Event::Unload { name },
-        again: Event::Unload { name: again },
-        spare: 0,
-    })
-}
-
-fn twin_of(alloc: Global, ask: Ask<'_>, contexts: u32) -> Result<Twin, NameFault>
-    ensures same { IfOk result (λ twin. twin.again ≡ twin.event) }
-    ensures room { IfOk result (λ twin. HasRoom contexts twin.event (room_for twin.spare)) }
+/// An event twice.
+fn twins(alloc: Global, ask: Ask<'_>) -> Result<(Event, Event), Fail>
+    ensures same { IfOk result (λ twins. twins.1 ≡ twins.0) }
+    ensures fits { (journal : List Entry) (thread : ℕ) → HasNoOpen journal thread →
+        IfOk result (λ twins. Fits journal thread twins.0) }
+    ensures command { IfOk result (λ twins. is_command twins.0 ≡ true) }
 {
     match ask {
-        New(name) => new_twin(alloc, name, ContextKind::Collectible),
-        Fixed(name) => new_twin(alloc, name, ContextKind::Fixed),
-        Unload(name) => unload_twin(alloc, name),
-        Collect => Ok(Twin {
-            event: Event::Collect,
-            again: Event::Collect,
-            spare: contexts,
-        }),
+        New(name) => {
+            let (name, again) = names(alloc, name)?;
+            let kind = ContextKind::Collectible;
+            Ok((Event::New { name, kind }, Event::New { name: again, kind }))
+        }
+        Fixed(name) => {
+            let (name, again) = names(alloc, name)?;
+            let kind = ContextKind::Fixed;
+            Ok((Event::New { name, kind }, Event::New { name: again, kind }))
+        }
+        Resolve => Ok((resolve(alloc)?, resolve(alloc)?)),
+        Weak(name) => {
+            let (name, again) = names(alloc, name)?;
+            let (handle, twin) = names(alloc, b"w")?;
+            let event = Event::Weak { handle, name };
+            Ok((
+                event,
+                Event::Weak {
+                    handle: twin,
+                    name: again,
+                },
+            ))
+        }
+        Alive(handle) => {
+            let (handle, again) = names(alloc, handle)?;
+            Ok((Event::Alive { handle }, Event::Alive { handle: again }))
+        }
+        Unload(name) => {
+            let (name, again) = names(alloc, name)?;
+            Ok((Event::Unload { name }, Event::Unload { name: again }))
+        }
+        Collect => Ok((Event::Collect, Event::Collect)),
     }
 }
 
@@ -94,15 +111,18 @@ fn room(alloc: Global, spare: u32) -> Result<Room, AllocError>
 
 fn order_of(alloc: Global, ask: Ask<'_>, contexts: u32) -> Result<Order<u8>, Fail>
     ensures same { IfOk result (λ order. order.again ≡ order.event) }
-    ensures room { IfOk result (λ order. HasRoom contexts order.event order.room) }
-    ensures copy { IfOk result (λ order. HasRoom contexts order.event order.copy) }
+    ensures fits { (journal : List Entry) (thread : ℕ) → HasNoOpen journal thread →
+        IfOk result (λ order. Fits journal thread order.event) }
+    ensures command { IfOk result (λ order. is_command order.event ≡ true) }
+    ensures room { IfOk result (λ order. order.room ≡ room_for contexts) }
+    ensures copy { IfOk result (λ order. order.copy ≡ room_for contexts) }
 {
-    let twin = twin_of(alloc, ask, contexts)?;
-    let place = room(alloc, twin.spare)?;
-    let copy = room(alloc, twin.spare)?;
+    let (event, again) = twins(alloc, ask)?;
+    let place = room(alloc, contexts)?;
+    let copy = room(alloc, contexts)?;
     Ok(Order {
-        event: twin.event,
-        again: twin.again,
+        event,
+        again,
         code: None,
         room: place,
         copy,
@@ -112,15 +132,16 @@ fn order_of(alloc: Global, ask: Ask<'_>, contexts: u32) -> Result<Order<u8>, Fai
 /// A host with room for this many entries of each of two threads.
 fn host_of(alloc: Global, entries: u32) -> Result<HostCore<u8>, AllocError>
     requires { entries ≤ 500 }
-    ensures { IfOk result (λ host. let share : Share =
-        record { events = entries; contexts = entries; handles = 0; rules = 0 } in
-        host ≡ record { bounds = bounds_of (share ∷ share ∷ []); journal = [] }) }
+    ensures host { IfOk result (λ host. let share : Share =
+        record { events = entries; contexts = entries; handles = entries; rules = entries } in
+        host ≡ record { fixed = fixed_by (bounds_of (share ∷ share ∷ [])); journal = [] }) }
+    ensures allowed { IfOk result (λ host. IsAllowed host.fixed host.journal) }
 {
     let share = Share {
         events: entries,
         contexts: entries,
-        handles: 0,
-        rules: 0,
+        handles: entries,
+        rules: entries,
     };
     let shares = Vec::from_slice(alloc, [share, share].as_slice())?;
     let bounds = Bounds::of(alloc, shares)?;
@@ -128,18 +149,7 @@ fn host_of(alloc: Global, entries: u32) -> Result<HostCore<u8>, AllocError>
 }
 
 fn text(alloc: Global, thread: u32, reply: &Reply) -> Result<String, AllocError> {
-    match reply {
-        Reply::Exists(context) => format!(in alloc; "{thread} Exists {context}; "),
-        Reply::Made(context) => format!(in alloc; "{thread} Made {context}; "),
-        Reply::NoContext => format!(in alloc; "{thread} NoContext; "),
-        Reply::Unloading(context) => format!(in alloc; "{thread} Unloading {context}; "),
-        Reply::Fixed(context) => format!(in alloc; "{thread} Fixed {context}; "),
-        Reply::Already(context) => format!(in alloc; "{thread} Already {context}; "),
-        Reply::Freed(contexts) => {
-            let freed = contexts.numbers();
-            format!(in alloc; "{thread} Freed {freed:?}; ")
-        }
-    }
+    format!(in alloc; "{thread} {reply:?}; ")
 }
 
 /// What two threads are answered, and what the journal then says.
@@ -167,20 +177,21 @@ fn answers(alloc: Global, asks: &[(u32, Ask<'_>)]) -> Result<(String, String), F
 fn contexts_live_and_die(rt: HostRuntime) -> Result<(), Fail> {
     let p = b"P".as_slice();
     let q = b"Q".as_slice();
+    let w = b"w".as_slice();
     let default = b"default".as_slice();
     for (asks, wanted) in [
         ([].as_slice(), ""),
         (
             [(1, New(p)), (1, Unload(p)), (1, Collect)].as_slice(),
-            "1 Made 1; 1 Unloading 1; 1 Freed [1]; ",
+            "1 Made(1); 1 Unloading(1); 1 Freed(Reserved { items: [1], spare: 0 }); ",
         ),
         (
             [(1, Unload(default)), (1, Collect), (1, Collect)].as_slice(),
-            "1 Fixed 0; 1 Freed []; 1 Freed []; ",
+            "1 Fixed(0); 1 Freed(Reserved { items: [], spare: 0 }); 1 Freed(Reserved { items: [], spare: 0 }); ",
         ),
         (
             [(1, New(default)), (1, Fixed(default))].as_slice(),
-            "1 Exists 0; 1 Exists 0; ",
+            "1 Exists(0); 1 Exists(0); ",
         ),
         (
             [
@@ -192,7 +203,7 @@ fn contexts_live_and_die(rt: HostRuntime) -> Result<(), Fail> {
                 (1, New(p)),
             ]
             .as_slice(),
-            "1 Made 1; 1 Unloading 1; 1 Exists 1; 1 Already 1; 1 Freed [1]; 1 Made 2; ",
+            "1 Made(1); 1 Unloading(1); 1 Exists(1); 1 Already(1); 1 Freed(Reserved { items: [1], spare: 0 }); 1 Made(2); ",
         ),
         (
             [
@@ -204,7 +215,7 @@ fn contexts_live_and_die(rt: HostRuntime) -> Result<(), Fail> {
                 (1, Unload(q)),
             ]
             .as_slice(),
-            "1 Made 1; 2 Made 2; 2 Unloading 1; 1 Unloading 2; 2 Freed [1, 2]; 1 NoContext; ",
+            "1 Made(1); 2 Made(2); 2 Unloading(1); 1 Unloading(2); 2 Freed(Reserved { items: [1, 2], spare: 0 }); 1 NoContext; ",
         ),
         (
             [
@@ -215,7 +226,23 @@ fn contexts_live_and_die(rt: HostRuntime) -> Result<(), Fail> {
                 (2, Collect),
             ]
             .as_slice(),
-            "2 Made 1; 1 Made 2; 1 Fixed 1; 1 Unloading 2; 2 Freed [2]; ",
+            "2 Made(1); 1 Made(2); 1 Fixed(1); 1 Unloading(2); 2 Freed(Reserved { items: [2], spare: 0 }); ",
+        ),
+        (
+            [
+                (1, New(p)),
+                (2, Weak(p)),
+                (1, Weak(p)),
+                (1, Unload(p)),
+                (2, Alive(w)),
+                (1, Collect),
+                (1, Alive(w)),
+                (2, Alive(p)),
+                (2, Resolve),
+            ]
+            .as_slice(),
+            "1 Made(1); 2 Weakly(1); 1 InUse; 1 Unloading(1); 2 Alive(1); \
+             1 Freed(Reserved { items: [1], spare: 0 }); 1 Gone(1); 2 NoHandle; 2 Set(0); ",
         ),
     ] {
         let (told, kept) = answers(rt.alloc(), asks)?;

@@ -24,7 +24,7 @@ returns c =
     let all : c.loop-context.context ≡ made_count c.args.entries.now + 1 = omega (arith, c.made_count.ensures) in
     record {
       unkept = subst (λ l. ListsUnkept c.args.entries.now l) (sym list)
-          (ListsUnkept-from_collected c.args.entries.now c.loop-context.context c.loop-context.freed.list c.requires.legal (omega arith) c.loop-context.invariant.collected);
+          (ListsUnkept-from_collected c.requires.legal.0 c.args.entries.now c.loop-context.context c.loop-context.freed.list c.requires.legal.1 (omega arith) c.loop-context.invariant.collected);
       few = omega (arith, ap length list, c.loop-context.invariant.collected.few);
       sealed = cc;
     }

@@ -1,18 +1,28 @@
 -- A thread with a share for as many entries as are asked for has room for one more.
-use Rattle.std.proofs.Common.{◌≡◌, ℕ, ◌+◌, ◌<◌, ◌≤◌, zero, suc, Bool, true, false, List, [], ◌∷◌, length, refl, sym, ap, subst, ◌∙◌, ◌&&◌, cond, eqb, arith}
-use Rattle.std.specs.List.{filter}
+use Rattle.std.proofs.Common.{◌≡◌, ℕ, ◌+◌, ◌<◌, ◌≤◌, zero, suc, Bool, true, false, List, [], ◌∷◌, ◌++◌, length, map, refl, sym, ap, subst, ◌∙◌, ◌&&◌, cond, eqb, arith}
+use Rattle.std.specs.List.{filter, list_all}
 use Rattle.std.specs.Option.{is_some}
+use Rattle.std.proofs.lemmas.Bool.{and_parts}
+use Rattle.std.proofs.lemmas.List.{length_push}
+use Rattle.std.proofs.lemmas.List.Folds.{list_all-append}
 use Rattle.host_events.specs.Contexts.{made_context}
 use Rattle.host_events.specs.declared.event.Event.{Event}
-use Rattle.host_events.specs.declared.event.Event.TheVariants.{New, Unload, Collect}
+use Rattle.host_events.specs.declared.event.Event.TheVariants as events
 use Rattle.host_events.specs.declared.journal.Entry.{Entry}
+use Rattle.host_events.specs.declared.order.Order.{Order}
 use Rattle.host_events.specs.declared.order.Room.{Room}
-use Rattle.host_events.proofs.Operations.{each_fits}
+use Rattle.host_events.specs.declared.reply.Reply.{Reply}
+use Rattle.host_events.specs.Journal.{Fits, HasNoOpen, own_entries}
+use Rattle.host_events.specs.Operations.{is_command}
+use Rattle.host_events.specs.Steps.{entry_of}
+use Rattle.host_events.proofs.Operations.{no_open-commands}
 use Rattle.host_core.specs.declared.bounds.Share.{Share}
 use Rattle.host_core.specs.declared.bounds.Bounds.{Bounds}
-use Rattle.host_core.specs.Accepted.{HasRoom, IsAccepted, MayMake}
-use Rattle.host_core.specs.Allowed.{used_contexts}
+use Rattle.host_core.specs.Accepted.{HasRoom, IsAccepted, MayMake, numbers_due, room_for}
+use Rattle.host_core.specs.Allowed.{IsAllowed, makes_handle, sets_rule, used_contexts, used_handles, used_rules}
 use Rattle.host_core.specs.Bounds.{bounds_of, part_of}
+use Rattle.host_core.specs.Core.{fixed_by}
+use Rattle.host_core.proofs.Keeps.{numbers_due-le}
 use Rattle.host_core.proofs.tests.answers.Goals as goal
 
 length-filter-le : {X : Type 0} (p : X → Bool) (xs : List X) → length (filter p xs) ≤ length xs
@@ -31,36 +41,106 @@ two_parts part share (suc (suc zero)) low high = refl
 two_parts part share (suc (suc (suc n))) low high = absurd (omega arith)
 
 may_make : (bounds : Bounds) (journal : List Entry) (thread : ℕ) (event : Event) →
-    used_contexts journal thread < part_of (λ share. share.contexts) bounds.shares thread → MayMake bounds journal thread event
-may_make bounds journal thread (New name kind) fewer = fewer
-may_make bounds journal thread (Unload name) fewer = tt
-may_make bounds journal thread Collect fewer = tt
+    used_contexts journal thread < part_of (λ share. share.contexts) bounds.shares thread →
+    used_handles journal thread < part_of (λ share. share.handles) bounds.shares thread →
+    used_rules journal thread < part_of (λ share. share.rules) bounds.shares thread →
+    MayMake bounds journal thread event
+may_make bounds journal thread (events.New name kind) contexts handles rules = contexts
+may_make bounds journal thread (events.Rule place name answer) contexts handles rules = rules
+may_make bounds journal thread (events.Enter name) contexts handles rules = tt
+may_make bounds journal thread (events.EnterHandle handle) contexts handles rules = tt
+may_make bounds journal thread (events.Lookup context name version) contexts handles rules = tt
+may_make bounds journal thread (events.Ask step context name) contexts handles rules = tt
+may_make bounds journal thread (events.Publish context name candidate) contexts handles rules = tt
+may_make bounds journal thread (events.Place user key) contexts handles rules = tt
+may_make bounds journal thread (events.LoadStatic key field kind) contexts handles rules = tt
+may_make bounds journal thread (events.StoreStatic key field value) contexts handles rules = tt
+may_make bounds journal thread (events.Hold handle assembly method) contexts handles rules = handles
+may_make bounds journal thread (events.DropHandle handle) contexts handles rules = tt
+may_make bounds journal thread (events.Weak handle name) contexts handles rules = handles
+may_make bounds journal thread (events.Alive handle) contexts handles rules = tt
+may_make bounds journal thread (events.Unload name) contexts handles rules = tt
+may_make bounds journal thread events.Collect contexts handles rules = tt
+may_make bounds journal thread (events.Leave operation) contexts handles rules = tt
 
-accepted : (entries : ℕ) (bounds : Bounds) (journal : List Entry) (thread : ℕ) (event again : Event) (room copy : Room) →
-    let share : Share = record { events = entries; contexts = entries; handles = 0; rules = 0 } in
-    bounds ≡ bounds_of (share ∷ share ∷ []) → length journal < entries → 1 ≤ thread → thread ≤ 2 → again ≡ event →
-    HasRoom (entries + entries + 1) event room → HasRoom (entries + entries + 1) event copy →
-    IsAccepted bounds journal thread event again room copy
-accepted entries bounds journal thread event again room copy is fewer low high same has_room has_copy =
-    let share : Share = record { events = entries; contexts = entries; handles = 0; rules = 0 } in
-    let events = two_parts (λ s. s.events) share thread low high in
-    let contexts = two_parts (λ s. s.contexts) share thread low high in
+own_commands : (journal : List Entry) (thread : ℕ) → list_all (λ e. is_command e.event) journal ≡ true →
+    list_all (λ step. is_command step.0) (own_entries journal thread) ≡ true
+own_commands [] thread all = refl
+own_commands (e ∷ es) thread all =
+    let parts = and_parts (is_command e.event) (list_all (λ x. is_command x.event) es) all in
+    at (eqb e.thread thread) parts.0 (own_commands es thread parts.1)
+  where
+    own : Entry → Event × Reply
+    own x = (x.event, x.reply)
+
+    mine : List Entry
+    mine = filter (λ x. eqb x.thread thread) es
+
+    at : (b : Bool) → is_command e.event ≡ true → list_all (λ step. is_command step.0) (map own mine) ≡ true →
+        list_all (λ step. is_command step.0) (map own (cond b (e ∷ mine) mine)) ≡ true
+    at true first later = cc (first, later)
+    at false first later = later
+
+has_room : (entries contexts : ℕ) (event : Event) (room : Room) → contexts ≡ entries + entries + 1 →
+    room ≡ room_for (entries + entries + 1) → HasRoom contexts event room
+has_room entries contexts event room all is =
+    subst (λ (r : Room). HasRoom contexts event r) (sym is)
+    ((refl, refl, refl, refl), omega (arith, numbers_due-le contexts (entries + entries + 1) event (omega arith), most (entries + entries + 1) event))
+  where
+    most : (n : ℕ) (event : Event) → numbers_due n event ≤ n
+    most n (events.New name kind) = omega arith
+    most n (events.Rule place name answer) = omega arith
+    most n (events.Enter name) = omega arith
+    most n (events.EnterHandle handle) = omega arith
+    most n (events.Lookup context name version) = omega arith
+    most n (events.Ask step context name) = omega arith
+    most n (events.Publish context name candidate) = omega arith
+    most n (events.Place user key) = omega arith
+    most n (events.LoadStatic key field kind) = omega arith
+    most n (events.StoreStatic key field value) = omega arith
+    most n (events.Hold handle assembly method) = omega arith
+    most n (events.DropHandle handle) = omega arith
+    most n (events.Weak handle name) = omega arith
+    most n (events.Alive handle) = omega arith
+    most n (events.Unload name) = omega arith
+    most n events.Collect = omega arith
+    most n (events.Leave operation) = omega arith
+
+accepted : {C : Type 0} (entries : ℕ) (bounds : Bounds) (journal : List Entry) (thread : ℕ) (order : Order C) →
+    let share : Share = record { events = entries; contexts = entries; handles = entries; rules = entries } in
+    bounds ≡ bounds_of (share ∷ share ∷ []) → length journal < entries → 1 ≤ thread → thread ≤ 2 →
+    Fits journal thread order.event → order.again ≡ order.event →
+    order.room ≡ room_for (entries + entries + 1) → order.copy ≡ room_for (entries + entries + 1) →
+    IsAccepted (fixed_by bounds) journal thread order
+accepted entries bounds journal thread order is fewer low high fits same room copy =
+    let share : Share = record { events = entries; contexts = entries; handles = entries; rules = entries } in
     let shares : bounds.shares ≡ share ∷ share ∷ [] = ap (λ b. b.shares) is in
     let all : bounds.contexts ≡ entries + entries + 1 = ap (λ b. b.contexts) is ∙ omega arith in
+    let within : (part : Share → ℕ) → part share ≡ entries → part_of part bounds.shares thread ≡ entries =
+    λ part whole. ap (λ l. part_of part l thread) shares ∙ two_parts part share thread low high ∙ whole in
     record {
-      fits = each_fits journal thread event;
+      fits = fits;
       same = same;
-      events = omega (arith, length-filter-le (λ e. eqb e.thread thread) journal, events, ap (λ l. part_of (λ s. s.events) l thread) shares);
-      contexts = may_make bounds journal thread event
-          (omega (arith, length-filter-le (λ e. eqb e.thread thread && is_some (made_context e.reply)) journal, contexts, ap (λ l. part_of (λ s. s.contexts) l thread) shares));
-      room_brought = subst (λ n. HasRoom n event room) (sym all) has_room;
-      copy_brought = subst (λ n. HasRoom n event copy) (sym all) has_copy;
+      events = omega (arith, length-filter-le (λ e. eqb e.thread thread) journal, within (λ s. s.events) refl);
+      makes = may_make bounds journal thread order.event
+          (omega (arith, length-filter-le (λ e. eqb e.thread thread && is_some (made_context e.reply)) journal, within (λ s. s.contexts) refl))
+          (omega (arith, length-filter-le (λ e. eqb e.thread thread && makes_handle e.reply) journal, within (λ s. s.handles) refl))
+          (omega (arith, length-filter-le (λ e. eqb e.thread thread && sets_rule e.reply) journal, within (λ s. s.rules) refl));
+      room_brought = has_room entries bounds.contexts order.event order.room all room;
+      copy_brought = has_room entries bounds.contexts order.event order.copy all copy;
     }
 
 pub apply-answer-requires : goal.apply-answer-requires
 apply-answer-requires c =
-    let order = c.in_ok-order.order in
-    accepted (length c.args.asks.now) c.loop-thread.host.bounds c.loop-thread.host.journal c.clamp-thread.result
-    order.event order.again order.room order.copy
-    c.loop-thread.invariant.0 (omega (arith, c.loop-thread.invariant.1)) (omega (arith, c.clamp-thread.ensures)) (omega (arith, c.clamp-thread.ensures))
-    c.in_ok-order.ensures.same c.in_ok-order.ensures.room c.in_ok-order.ensures.copy
+    let host = c.loop-thread.host in
+    let thread = c.clamp-thread.result in
+    let invariant = c.loop-thread.invariant in
+    let entries = length c.args.asks.now in
+    let share : Share = record { events = entries; contexts = entries; handles = entries; rules = entries } in
+    let bounds = bounds_of (share ∷ share ∷ []) in
+    let none : HasNoOpen host.journal thread =
+    no_open-commands host.fixed.files host.journal thread invariant.2.proper.legal (own_commands host.journal thread invariant.3) in
+    subst (λ f. IsAccepted f host.journal thread c.in_ok-order.order) (sym invariant.0)
+    (accepted entries bounds host.journal thread c.in_ok-order.order refl (omega (arith, invariant.1, c.loop-thread-test.true))
+    (omega (arith, c.clamp-thread.ensures)) (omega (arith, c.clamp-thread.ensures))
+    (c.in_ok-order.ensures.fits host.journal thread none) c.in_ok-order.ensures.same c.in_ok-order.ensures.room c.in_ok-order.ensures.copy)
