@@ -1,0 +1,12 @@
+mod ByteLemmas
+mod ImageLemmas
+mod LineLemmas
+mod NumberLemmas
+mod RowLemmas
+mod SaidLemmas
+pub mod ScriptLemmas
+mod SpellingLemmas
+mod StateLemmas
+mod TextLemmas
+mod WordLemmas
+pub mod SmallLemmas

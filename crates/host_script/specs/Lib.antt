@@ -1,0 +1,17 @@
+pub mod Bytes
+pub mod Cause
+pub mod FirstWord
+pub mod Form
+pub mod Images
+pub mod Laws
+pub mod LineForm
+pub mod Lines
+pub mod Number
+pub mod Outcome
+pub mod Row
+pub mod Script
+pub mod Slot
+pub mod Spelling
+pub mod State
+pub mod Text
+pub mod Words
