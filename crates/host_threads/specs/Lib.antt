@@ -1,0 +1,5 @@
+pub mod Counted
+pub mod Drive
+pub mod Laws
+pub mod Seats
+pub mod Turns
