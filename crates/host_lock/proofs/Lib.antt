@@ -1,0 +1,9 @@
+pub mod Lists
+pub mod Journals
+pub mod Waiting
+pub mod Turns
+pub mod Splitting
+pub mod Joining
+pub mod Events
+pub mod Closing
+pub mod Tallies
