@@ -1,0 +1,5 @@
+use Rattle.command_flow.proofs.RunLemmas.{in_order_each}
+use Rattle.command_flow.proofs.laws.commands_in_order.Goals as goal
+
+pub returns : goal.returns
+returns c = in_order_each

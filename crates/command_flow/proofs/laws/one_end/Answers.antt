@@ -1,0 +1,6 @@
+use Rattle.command_flow.proofs.RunLemmas.{one_end_each}
+use Rattle.command_flow.proofs.FlowLemmas as flows
+use Rattle.command_flow.proofs.laws.one_end.Goals as goal
+
+pub returns : goal.returns
+returns c = one_end_each

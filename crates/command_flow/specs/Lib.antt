@@ -1,0 +1,5 @@
+pub mod Events
+pub mod Flow
+pub mod Laws
+pub mod Orders
+pub mod Run
