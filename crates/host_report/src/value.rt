@@ -1,0 +1,65 @@
+// The texts of values.
+ghost use Rattle.std.specs.Prelude.{◌≡◌, ℕ, List, [], ◌∷◌, ◌++◌, codes};
+ghost use Rattle.host_report.specs.Fields.{Field, fields_text};
+ghost use Rattle.host_report.specs.Table.{text_value, units_value};
+ghost use Rattle.host_report.specs.Line.{Puts};
+
+use crate::field::{put_int, put_long, put_string, put_word};
+use crate::line::Line;
+use cli_words::Units;
+use host_events::{Datum, Text};
+use plug_io::Sink;
+
+/// Puts a value whose text is shared, with the space before it.
+pub(crate) fn put_units_value<S: Sink>(line: &mut Line, out: &mut S, value: &Datum<Units>)
+    ensures { Puts S.written S.faults line.old out.old line.new out.new
+        (fields_text (units_value value.now)) }
+{
+    match value {
+        Datum::I4(number) => {
+            put_word(line, out, b"i4");
+            put_int(line, out, *number);
+        }
+        Datum::I8(number) => {
+            put_word(line, out, b"i8");
+            put_long(line, out, *number);
+        }
+        Datum::N(number) => {
+            put_word(line, out, b"n");
+            put_long(line, out, *number);
+        }
+        Datum::S(text) => {
+            put_word(line, out, b"s");
+            put_string(line, out, text.units());
+        }
+        Datum::Null => put_word(line, out, b"null"),
+        Datum::Ref => put_word(line, out, b"ref"),
+    }
+}
+
+/// Puts a value whose text is one of a reply, with the space before it.
+pub(crate) fn put_text_value<S: Sink>(line: &mut Line, out: &mut S, value: &Datum<Text>)
+    ensures { Puts S.written S.faults line.old out.old line.new out.new
+        (fields_text (text_value value.now)) }
+{
+    match value {
+        Datum::I4(number) => {
+            put_word(line, out, b"i4");
+            put_int(line, out, *number);
+        }
+        Datum::I8(number) => {
+            put_word(line, out, b"i8");
+            put_long(line, out, *number);
+        }
+        Datum::N(number) => {
+            put_word(line, out, b"n");
+            put_long(line, out, *number);
+        }
+        Datum::S(text) => {
+            put_word(line, out, b"s");
+            put_string(line, out, text.units());
+        }
+        Datum::Null => put_word(line, out, b"null"),
+        Datum::Ref => put_word(line, out, b"ref"),
+    }
+}
