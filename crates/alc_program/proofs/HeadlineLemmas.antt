@@ -4,37 +4,16 @@ use Rattle.std.specs.Prelude.{IsSome, IsSomeAnd}
 use Rattle.host_events.specs.declared.journal.Entry.{Entry}
 use Rattle.host_events.specs.declared.outcome.CommandEnd.{CommandEnd}
 use Rattle.plug_io.specs.Files.{held_at}
-use Rattle.alc_program.specs.declared.script.LineCause.{LineCause}
-use Rattle.alc_program.specs.declared.script.LineCause.TheVariants.{Absent, TooLong, NotBuilt}
-use Rattle.alc_program.specs.declared.script.Script.{Script}
+use Rattle.host_script.specs.declared.script.Script.{Script}
 use Rattle.alc_program.specs.declared.status.Status.{Status}
 use Rattle.alc_program.specs.declared.status.Status.TheVariants.{Done, Usage, Script as Refused, ReadFault, WriteFault, OutOfMemory}
 use Rattle.alc_program.specs.Good.{RunsScript}
 use Rattle.alc_program.specs.Headline.{During, CanBeDone, HasFailed, IsAnswerTo, IsAnswerToInspect, IsAnswerToSteps, IsAnswerToWords, IsReport, IsUntouched}
-use Rattle.alc_program.specs.Load.{HoldsScript, RefusesContent, RefusesFile, script_limit}
-use Rattle.alc_program.specs.Report.{report_text}
-use Rattle.alc_program.specs.Script.{Accepts}
+use Rattle.alc_program.specs.Load.{HoldsScript}
+use Rattle.alc_program.proofs.LoadLemmas.{not_refused_file}
+use Rattle.host_report.specs.Report.{report_text}
 use Rattle.alc_program.specs.Words.{Request, Asks}
 use Rattle.alc_program.specs.Words.Request.{steps, inspect}
-
--- content that is a script is not refused
-not_refused : (content : Option (List ℕ)) (bytes : List ℕ) (script : Script) (cause : LineCause) →
-    content ≡ Some bytes → length bytes ≤ script_limit → Accepts bytes script → RefusesContent content cause → ⊥
-not_refused content bytes script Absent is short accepted refuses = cc
-not_refused content bytes script TooLong is short accepted refuses =
-    let long : script_limit < length bytes = subst (λ (c : Option (List ℕ)). IsSomeAnd c (λ b. script_limit < length b)) is refuses in
-    omega arith
-not_refused content bytes script NotBuilt is short accepted refuses =
-    let none : (length bytes ≤ script_limit) × ((s : Script) → ¬ Accepts bytes s) =
-    subst (λ (c : Option (List ℕ)). IsSomeAnd c (λ b. (length b ≤ script_limit) × ((s : Script) → ¬ Accepts b s))) is refuses in
-    none.1 script accepted
-
--- a file that the files tell to hold a script is not refused
-not_refused_file : (held : Option (List (List ℕ × List ℕ))) (file : List ℕ) (script : Script) (cause : LineCause) →
-    IsSome held → HoldsScript held file script → RefusesFile held file cause → ⊥
-not_refused_file (Some entries) file script cause told holds refuses =
-    not_refused (held_at entries file) holds.bytes script cause holds.found holds.short holds.accepted refuses
-not_refused_file None file script cause told holds refuses = cc
 
 complete_steps : (file schedule : List ℕ) (files : During (List (List ℕ × List ℕ))) (out : During (List ℕ)) (answer : Status) →
     CanBeDone (steps file schedule) files.before → ¬ HasFailed files → ¬ HasFailed out →
@@ -45,7 +24,7 @@ complete_steps file schedule files out Usage can reads writes is = absurd is
 complete_steps file schedule files out ReadFault can reads writes is = absurd (reads is.0)
 complete_steps file schedule files out WriteFault can reads writes is = absurd (writes is.3)
 complete_steps file schedule files out (Refused line cause) can reads writes is =
-    absurd (not_refused_file files.before file can.1 cause can.0 can.2 is.1)
+    absurd (not_refused_file files.before file can.1 line cause can.0 can.2 is.0)
 
 complete_inspect : (file : List ℕ) (files : During (List (List ℕ × List ℕ))) (out : During (List ℕ)) (answer : Status) →
     ¬ HasFailed files → ¬ HasFailed out → IsAnswerToInspect file files out answer → (answer ≡ Done) ⊎ (answer ≡ OutOfMemory)

@@ -14,11 +14,11 @@ use Rattle.assembly_image.specs.declared.members.Member.{Member}
 use Rattle.assembly_image.specs.Members.{after_list, list_of_kind, member_range, members_of, table_of}
 use Rattle.assembly_image.specs.Module.{Module, number}
 use Rattle.assembly_image.specs.Names.{encloser, full_name_within, has_type, qualified, type_name, type_namespace}
-use Rattle.alc_program.specs.declared.line.Line.{Line}
-use Rattle.alc_program.specs.Line.{Puts}
-use Rattle.alc_program.specs.Quote.{unit_text, units_text, IsApart}
-use Rattle.alc_program.proofs.LineLemmas.{puts_as, puts_then}
-use Rattle.alc_program.proofs.QuoteLemmas.{apart_joined, units_joined}
+use Rattle.host_report.specs.declared.line.Line.{Line}
+use Rattle.host_report.specs.Line.{Puts}
+use Rattle.host_report.specs.Quote.{unit_text, units_text, IsApart}
+use Rattle.host_report.proofs.LineLemmas.{puts_as, puts_then}
+use Rattle.host_report.proofs.QuoteLemmas.{apart_joined, units_joined}
 
 rows_from : (text : ℕ → List ℕ) (first n : ℕ) →
     flat_map text (range_with_len first (suc n)) ≡ flat_map text (range_with_len first n) ++ text (first + n)

@@ -1,13 +1,10 @@
+pub mod DriveLemmas
+pub mod EventLemmas
 pub mod HeadlineLemmas
 pub mod InspectionLemmas
-pub mod LineLemmas
-pub mod PlainTexts
 pub mod LoadLemmas
 pub mod OneRun
-pub mod QuoteLemmas
 pub mod ReadingLemmas
-pub mod ReportLemmas
 pub mod RunLemmas
-pub mod ScriptTexts
-pub mod TurnLemmas
+pub mod UnbuiltLemmas
 pub mod WordsLemmas

@@ -1,188 +1,230 @@
--- One thread's commands, given to the host one after another.
-use Rattle.std.proofs.Common.{◌≡◌, ℕ, ◌+◌, ◌<◌, ◌≤◌, ◌^◌, Bool, true, false, ◌&&◌, eqb, cond, List, [], ◌∷◌, ◌++◌, length, take, drop, get_or, refl, sym, ap, subst, ◌∙◌, inl, inr, append_assoc, arith}
-use Rattle.std.specs.List.{filter}
-use Rattle.std.specs.Option.{is_some}
-use Rattle.std.proofs.lemmas.List.{append-nil, length-append, take-append-drop, take_all, take_more}
-use Rattle.std.proofs.lemmas.List.Elements.{filter-append}
-use Rattle.host_events.specs.declared.event.Event.{Event}
-use Rattle.host_events.specs.declared.reply.Reply.{Reply}
-use Rattle.host_events.specs.declared.journal.Entry.{Entry}
-use Rattle.host_events.specs.declared.order.Room.{Room}
-use Rattle.host_events.specs.declared.outcome.CommandEnd.{CommandEnd}
-use Rattle.host_events.specs.declared.outcome.Outcome.TheVariants.{Replied}
-use Rattle.host_events.specs.Contexts.{made_context, named}
-use Rattle.host_events.specs.Journal.{IsLegal, own_entries}
-use Rattle.host_events.specs.Reply.{IsReply}
-use Rattle.host_events.proofs.Numbers.{made-unload}
-use Rattle.host_events.proofs.Operations.{each_fits}
-use Rattle.host_events.proofs.Push.{own_entries-push, push_parts}
-use Rattle.host_core.specs.Accepted.{HasRoom, IsAccepted, MayMake}
-use Rattle.host_core.specs.Allowed.{used_contexts, used_events}
-use Rattle.host_core.specs.Bounds.{bounds_of, CanSum}
+-- A run of a script: the shares of its threads, and what their flows leave.
+use Rattle.std.proofs.Common.{◌≡◌, ℕ, zero, suc, ◌+◌, ◌<◌, ◌≤◌, ◌^◌, Bool, true, false, cond, List, [], ◌∷◌, ◌++◌, length, map, take, get_or, All, Option, Some, None, refl, sym, ap, subst, ◌∙◌, sum_by, min, arith}
+use Rattle.std.specs.Prelude.{IsSome}
+use Rattle.std.specs.List.{cons_option, filter, filter_map, flat_map, slice_get}
+use Rattle.std.specs.Option.{option_map, option_map_or}
+use Rattle.std.proofs.lemmas.List.{length-append, length-map, length-take, take_more}
+use Rattle.std.proofs.lemmas.List.Elements.{All-cons, All-nil, filter-append}
+use Rattle.std.proofs.lemmas.Bool.Decides.{nat_tests}
+use Rattle.std.proofs.lemmas.List.Sums.{sum_by-cons}
+use Rattle.host_core.specs.Bounds.{share_of}
 use Rattle.host_core.specs.declared.bounds.Bounds.{Bounds}
 use Rattle.host_core.specs.declared.bounds.Share.{Share}
-use Rattle.alc_program.specs.declared.script.Command.{Command}
-use Rattle.alc_program.specs.declared.script.Command.TheVariants.{New, Unload, Collect}
-use Rattle.alc_program.specs.declared.script.CommandLine.{CommandLine}
-use Rattle.alc_program.specs.OneThread.{IsAllOfOne, RunsAlone, is_new, new_count, share_for}
-use Rattle.alc_program.specs.Run.{event_of, RunsCommand, RunsThread}
+use Rattle.host_core.specs.Accepted.{IsAccepted}
+use Rattle.host_core.specs.Core.{fixed_by}
+use Rattle.host_events.specs.declared.journal.Entry.{Entry}
+use Rattle.host_events.specs.declared.order.Order.{Order}
+use Rattle.host_events.specs.declared.outcome.CommandEnd.{CommandEnd}
+use Rattle.host_events.specs.Flows.{Stand}
+use Rattle.host_events.specs.Steps.{own_steps}
+use Rattle.host_events.proofs.Steps.{own_steps-entries}
+use Rattle.host_threads.specs.Drive.{CanDrive}
+use Rattle.host_threads.specs.Turns.{IsOfThreads, TakesTurns}
+use Rattle.command_flow.specs.declared.code.NoCode.{NoCode}
+use Rattle.command_flow.specs.Events.{events_of}
+use Rattle.command_flow.specs.Flow.{CanCome, IsEnd, IsNext, Thread, fresh, stand_of, steps_of, trace_of}
+use Rattle.command_flow.specs.Run.{RunsThread}
+use Rattle.host_core.specs.Bounds.{CanSum, bounds_of, most_contexts, part_of}
+use Rattle.host_events.specs.declared.event.Event.{Event}
+use Rattle.host_core.specs.Allowed.{Fixed, IsAllowed, makes_context_by, makes_handle_by, sets_rule_by}
+use Rattle.host_script.specs.declared.command.Command.{Command}
+use Rattle.host_script.specs.declared.command.CommandLine.{CommandLine}
+use Rattle.command_flow.specs.Events.{event_of}
+use Rattle.alc_program.specs.Good.{RunsScript, commands_of}
+use Rattle.alc_program.specs.Shares.{asks_for, count_for, share_for}
+use Rattle.host_script.specs.declared.script.AppLine.{AppLine}
+use Rattle.host_script.specs.declared.script.Script.{Script}
+use Rattle.alc_program.specs.Unbuilt.{image_lines, is_built, unbuilt_line, unbuilt_lines}
+use Rattle.alc_program.proofs.DriveLemmas.{can_drive}
+use Rattle.alc_program.proofs.EventLemmas.{built-event}
 
--- a thread's run, with one more command
-pub RunsThread-push : (lines : List CommandLine) (trace first : List (Event × Reply)) (ends : List CommandEnd) (line : CommandLine) (end : CommandEnd) →
-    RunsThread lines trace ends → RunsCommand line.command first end → RunsThread (lines ++ line ∷ []) (trace ++ first) (ends ++ end ∷ [])
-RunsThread-push [] trace first ends line end run more =
-    (first, [], end, [], ap (λ t. t ++ first) run.0 ∙ sym (append-nil first), ap (λ es. es ++ end ∷ []) run.1, more, (refl, refl))
-RunsThread-push (l ∷ ls) trace first ends line end run more = (
-  run.0,
-  run.1 ++ first,
-  run.2,
-  run.3 ++ end ∷ [],
-  ap (λ t. t ++ first) run.4 ∙ append_assoc run.0 run.1 first,
-  ap (λ es. es ++ end ∷ []) run.5,
-  run.6,
-  RunsThread-push ls run.1 first run.3 line end run.7 more,
-)
-
--- how many commands are `new`
-pub new_count-append : (xs ys : List CommandLine) → new_count (xs ++ ys) ≡ new_count xs + new_count ys
-new_count-append xs ys =
-    ap length (filter-append (λ line. is_new line.command) xs ys)
-    ∙ length-append (filter (λ line. is_new line.command) xs) (filter (λ line. is_new line.command) ys)
-
-pub new_count_take : (lines : List CommandLine) (n : ℕ) → new_count (take n lines) ≤ new_count lines
-new_count_take lines n =
-    let whole : new_count (take n lines) + new_count (drop n lines) ≡ new_count lines =
-    sym (new_count-append (take n lines) (drop n lines)) ∙ ap new_count (take-append-drop n lines) in
-    omega arith
-
-pub new_count_bound : (lines : List CommandLine) → new_count lines ≤ length lines
-new_count_bound [] = omega arith
-new_count_bound (line ∷ lines) = at (is_new line.command) (new_count_bound lines)
+length-filter-le : {X : Type 0} (p : X → Bool) (xs : List X) → length (filter p xs) ≤ length xs
+length-filter-le p [] = omega arith
+length-filter-le p (x ∷ xs) = at (p x) (length-filter-le p xs)
   where
-    at : (b : Bool) → new_count lines ≤ length lines → length (cond b (line ∷ filter (λ l. is_new l.command) lines) (filter (λ l. is_new l.command) lines)) ≤ length (line ∷ lines)
-    at true rest = omega arith
-    at false rest = omega arith
+    at : (b : Bool) → length (filter p xs) ≤ length xs → length (cond b (x ∷ filter p xs) (filter p xs)) ≤ length (x ∷ xs)
+    at true h = omega arith
+    at false h = omega arith
 
--- one share can be summed up
-pub can_sum : (shares : List Share) (share : Share) → shares ≡ share ∷ [] →
-    share.events < 2 ^ 32 → share.contexts + 1 < 2 ^ 32 → share.handles ≡ 0 → share.rules ≡ 0 → CanSum shares
-can_sum shares share one events contexts handles rules =
-    rw one (record { some = omega arith; threads = omega arith; events = omega arith; contexts = omega arith; handles = omega arith; rules = omega arith })
+pub count-le : (test : Event → Bool) (lines : List CommandLine) → count_for test lines ≤ length lines
+count-le test lines = length-filter-le (λ line. asks_for test line.command) lines
 
--- there are fewer contexts than a host can have
-pub few_contexts : (lines : List CommandLine) (bounds : Bounds) → bounds ≡ bounds_of (share_for lines ∷ []) → length lines ≤ 1024 → bounds.contexts ≤ 1088
-few_contexts lines bounds e few = rw e (omega (arith, new_count_bound lines))
+-- a part of the shares is at most all commands
+sum-le : (part : Share → ℕ) → ((lines : List CommandLine) → part (share_for lines) ≤ length lines) → (threads : List (List CommandLine)) →
+    sum_by part (map share_for threads) ≤ sum_by length threads
+sum-le part each [] = omega arith
+sum-le part each (t ∷ ts) =
+    omega (arith, each t, sum-le part each ts, sum_by-cons part (share_for t) (map share_for ts), sum_by-cons (λ (l : List CommandLine). length l) t ts)
 
--- how many contexts the reply to a command's event makes
-pub made_at_most : (journal : List Entry) (command : Command) (reply : Reply) → IsReply journal (event_of command) reply →
-    cond (is_some (made_context reply)) 1 0 ≤ cond (is_new command) 1 0
-made_at_most journal (New context fixed) reply told = at (is_some (made_context reply))
+pub can_sum : (threads : List (List CommandLine)) → 1 ≤ length threads → length threads ≤ 8 → sum_by length threads ≤ 1024 →
+    CanSum (map share_for threads)
+can_sum threads some few commands =
+    let count : length (map share_for threads) ≡ length threads = length-map threads share_for in
+    record {
+      some = omega arith;
+      threads = omega arith;
+      events = omega (arith, sum-le (λ share. share.events) (λ lines. omega arith) threads);
+      contexts = omega (arith, sum-le (λ share. share.contexts) (λ lines. count-le makes_context_by lines) threads);
+      handles = omega (arith, sum-le (λ share. share.handles) (λ lines. count-le makes_handle_by lines) threads);
+      rules = omega (arith, sum-le (λ share. share.rules) (λ lines. count-le sets_rule_by lines) threads);
+    }
+
+pub few_contexts : (threads : List (List CommandLine)) → sum_by length threads ≤ 1024 → (bounds_of (map share_for threads)).contexts ≤ most_contexts
+few_contexts threads commands = omega (arith, sum-le (λ share. share.contexts) (λ lines. count-le makes_context_by lines) threads)
+
+-- one thread has no more commands than all
+pub length-le_sum : (threads : List (List CommandLine)) (i : ℕ) (d : List CommandLine) → i < length threads → length (get_or threads i d) ≤ sum_by length threads
+length-le_sum [] i d lt = absurd (omega arith)
+length-le_sum (t ∷ ts) zero d lt = omega (arith, sum_by-cons (λ (l : List CommandLine). length l) t ts)
+length-le_sum (t ∷ ts) (suc i) d lt =
+    let rest = length-le_sum ts i d (omega arith) in omega (arith, rest, sum_by-cons (λ (l : List CommandLine). length l) t ts)
+
+-- the share of a thread, in the order of the threads
+slice_get-map : {X Y : Type 0} (f : X → Y) (xs : List X) (i : ℕ) → slice_get (map f xs) i ≡ option_map f (slice_get xs i)
+slice_get-map f [] i = refl
+slice_get-map f (x ∷ xs) zero = refl
+slice_get-map f (x ∷ xs) (suc i) = slice_get-map f xs i
+
+pub share_at : (threads : List (List CommandLine)) (i : ℕ) (lines : List CommandLine) → slice_get threads i ≡ Some lines →
+    (part : Share → ℕ) → part_of part (map share_for threads) (i + 1) ≡ part (share_for lines)
+share_at threads i lines at part =
+    let next : i + 1 ≡ suc i = omega arith in
+    let here : slice_get (map share_for threads) i ≡ Some (share_for lines) = slice_get-map share_for threads i ∙ ap (option_map share_for) at in
+    let found : part_of part (map share_for threads) (suc i) ≡ part (share_for lines) = ap (λ (o : Option Share). option_map_or part o 0) here in
+    subst (λ n. part_of part (map share_for threads) n ≡ part (share_for lines)) (sym next) found
+
+-- what is found in a mapped list is found in the list
+pub mapped_at : {X Y : Type 0} (f : X → Y) (xs : List X) (i : ℕ) (y : Y) → slice_get (map f xs) i ≡ Some y → (x : X) × (slice_get xs i ≡ Some x) × (y ≡ f x)
+mapped_at f [] i y found = cc
+mapped_at f (x ∷ xs) zero y found = (x, refl, cc)
+mapped_at f (x ∷ xs) (suc i) y found = mapped_at f xs i y found
+
+-- where no line is left out, each command has an event
+pub all_built : (lines : List CommandLine) → filter_map unbuilt_line lines ≡ [] → All (λ command. IsSome (event_of command)) (commands_of lines)
+all_built [] none = All-nil (λ command. IsSome (event_of command))
+all_built (line ∷ lines) none = at (is_built line.command) refl (λ all. all_built lines all) none
   where
-    at : (b : Bool) → cond b 1 0 ≤ 1
-    at true = omega arith
-    at false = omega arith
-made_at_most journal (Unload context) reply told =
-    rw (told, made-unload journal (named journal context)) (omega arith)
-made_at_most journal Collect reply told = rw told.2 (omega arith)
+    at : (b : Bool) → is_built line.command ≡ b →
+        (filter_map unbuilt_line lines ≡ [] → All (λ command. IsSome (event_of command)) (commands_of lines)) →
+        cons_option (cond b None (Some line.line)) (filter_map unbuilt_line lines) ≡ [] →
+        All (λ command. IsSome (event_of command)) (commands_of (line ∷ lines))
+    at false is rest all = cc
+    at true is rest all =
+        All-cons (λ command. IsSome (event_of command)) line.command (commands_of lines) (built-event line.command is) (rest all)
 
--- what holds when i commands have run
-pub record IsSoFar (lines : List CommandLine) (i : ℕ) (bounds : Bounds) (journal : List Entry) (ends : List CommandEnd) : Type 0 where
-  pub shared : bounds ≡ bounds_of (share_for lines ∷ [])
-  pub alone : IsAllOfOne journal
-  pub runs : RunsThread (take i lines) (own_entries journal 1) ends
-  pub counted : used_events journal 1 ≡ i
-  pub made : used_contexts journal 1 ≤ new_count (take i lines)
+append_none : {X : Type 0} (xs ys : List X) → xs ++ ys ≡ [] → (xs ≡ []) × (ys ≡ [])
+append_none [] ys none = (refl, none)
+append_none (x ∷ xs) ys none = cc
 
-no_parts : {X : Type 0} (before after : List X) (x : X) → [] ≡ before ++ x ∷ after → ⊥
-no_parts [] after x e = cc
-no_parts (b ∷ bs) after x e = cc
+each_built : (threads : List (List CommandLine)) → flat_map (filter_map unbuilt_line) threads ≡ [] →
+    All (λ lines. All (λ command. IsSome (event_of command)) (commands_of lines)) threads
+each_built [] none = All-nil (λ lines. All (λ command. IsSome (event_of command)) (commands_of lines))
+each_built (t ∷ ts) none =
+    let parts = append_none (filter_map unbuilt_line t) (flat_map (filter_map unbuilt_line) ts) none in
+    All-cons (λ lines. All (λ command. IsSome (event_of command)) (commands_of lines)) t ts (all_built t parts.0) (each_built ts parts.1)
 
-pub IsSoFar-none : (lines : List CommandLine) (bounds : Bounds) → bounds ≡ bounds_of (share_for lines ∷ []) → IsSoFar lines 0 bounds [] []
-IsSoFar-none lines bounds shared = record {
-  shared = shared;
-  alone = λ before entry after e. absurd (no_parts before after entry e);
-  runs = (refl, refl);
-  counted = refl;
-  made = omega arith;
-}
+pub script_built : (script : Script) → unbuilt_lines script ≡ [] →
+    All (λ lines. All (λ command. IsSome (event_of command)) (commands_of lines)) script.threads
+script_built script none = each_built script.threads (append_none _ (flat_map (filter_map unbuilt_line) script.threads) none).1
 
--- one more entry of thread 1
-pub used_events-push : (journal : List Entry) (event : Event) (reply : Reply) →
-    used_events (journal ++ (record { thread = 1; event = event; reply = reply }) ∷ []) 1 ≡ used_events journal 1 + 1
-used_events-push journal event reply =
-    let one : List Entry = (record { thread = 1; event = event; reply = reply }) ∷ [] in
-    ap length (filter-append (λ entry. eqb entry.thread 1) journal one) ∙ length-append (filter (λ entry. eqb entry.thread 1) journal) one
-
-pub used_contexts-push : (journal : List Entry) (event : Event) (reply : Reply) →
-    used_contexts (journal ++ (record { thread = 1; event = event; reply = reply }) ∷ []) 1 ≡ used_contexts journal 1 + cond (is_some (made_context reply)) 1 0
-used_contexts-push journal event reply =
-    let one : List Entry = (record { thread = 1; event = event; reply = reply }) ∷ [] in
-    ap length (filter-append test journal one) ∙ length-append (filter test journal) (filter test one) ∙ ap (λ n. used_contexts journal 1 + n) (at (is_some (made_context reply)) one)
+-- how many ask for it, of one command more
+pub count_more : (test : Event → Bool) (lines : List CommandLine) (i : ℕ) (line : CommandLine) (count one : ℕ) →
+    i < length lines → line ≡ get_or lines i line → count ≡ count_for test (take i lines) → one ≡ cond (asks_for test line.command) 1 0 →
+    count + one ≡ count_for test (take (i + 1) lines)
+count_more test lines i line count one lt is so_far now =
+    let at_end : take (i + 1) lines ≡ take i lines ++ line ∷ [] = take_more lines i line lt ∙ ap (λ x. take i lines ++ x ∷ []) (sym is) in
+    omega (
+      arith,
+      so_far,
+      now,
+      ap (λ ls. count_for test ls) at_end,
+      ap length (filter-append (λ l. asks_for test l.command) (take i lines) (line ∷ [])),
+      length-append (filter (λ l. asks_for test l.command) (take i lines)) (filter (λ l. asks_for test l.command) (line ∷ [])),
+      last (asks_for test line.command),
+    )
   where
-    test : Entry → Bool
-    test entry = eqb entry.thread 1 && is_some (made_context entry.reply)
+    last : (b : Bool) → length (cond b (line ∷ []) []) ≡ cond b 1 0
+    last true = refl
+    last false = refl
 
-    at : (b : Bool) (one : List Entry) → length (cond b one []) ≡ cond b (length one) 0
-    at true one = refl
-    at false one = refl
+-- one command counts as one or as none
+pub counted : (b passes : Bool) (one : ℕ) → passes ≡ b → one ≡ cond passes 1 0 → one ≡ cond b 1 0
+counted b passes one same is = is ∙ ap (λ p. cond {A = ℕ} p 1 0) same
 
-new_count-one : (line : CommandLine) → new_count (line ∷ []) ≡ cond (is_new line.command) 1 0
-new_count-one line = at (is_new line.command)
-  where
-    at : (b : Bool) → length (cond b (line ∷ []) []) ≡ cond b 1 0
-    at true = refl
-    at false = refl
+one-le : (b : Bool) (one : ℕ) → one ≡ cond b 1 0 → one ≤ 1
+one-le true one is = omega (arith, is)
+one-le false one is = omega (arith, is)
 
-module _ (lines : List CommandLine) (i : ℕ) (bounds : Bounds) (journal : List Entry) (ends : List CommandEnd) (line : CommandLine)
-    (within : i < length lines) (here : line ≡ get_or lines i line) (before : IsSoFar lines i bounds journal ends) where
-  front : take (i + 1) lines ≡ take i lines ++ line ∷ []
-  front = take_more lines i line within ∙ ap (λ l. take i lines ++ l ∷ []) (sym here)
+min-le : (a b : ℕ) → min a b ≤ a
+min-le a b = grind (arith, nat_tests)
 
-  one_more : new_count (take (i + 1) lines) ≡ new_count (take i lines) + cond (is_new line.command) 1 0
-  one_more = ap new_count front ∙ new_count-append (take i lines) (line ∷ []) ∙ ap (λ n. new_count (take i lines) + n) (new_count-one line)
+count-le-index : (test : Event → Bool) (lines : List CommandLine) (i : ℕ) → count_for test (take i lines) ≤ i
+count-le-index test lines i = omega (arith, count-le test (take i lines), length-take i lines, min-le i (length lines))
 
-  may_make : (command : Command) → command ≡ line.command → MayMake bounds journal 1 (event_of command)
-  may_make (New context fixed) e =
-      let more : new_count (take (i + 1) lines) ≡ new_count (take i lines) + 1 = one_more ∙ ap (λ c. new_count (take i lines) + cond (is_new c) 1 0) (sym e) in
-      rw before.shared (omega (arith, new_count_take lines (i + 1), before.made, more))
-  may_make (Unload context) e = tt
-  may_make Collect e = tt
+pub fits_more : (test : Event → Bool) (lines : List CommandLine) (i : ℕ) (line : CommandLine) (count one : ℕ) →
+    i < length lines → length lines ≤ 1024 → count ≡ count_for test (take i lines) → one ≡ cond (asks_for test line.command) 1 0 →
+    count + one < 2 ^ 32
+fits_more test lines i line count one lt few so_far now =
+    omega (arith, so_far, count-le-index test lines i, one-le (asks_for test line.command) one now)
 
-  -- the host takes the command's order
-  pub accepted : (event again : Event) (room copy : Room) → event ≡ event_of line.command → again ≡ event_of line.command →
-      HasRoom bounds.contexts (event_of line.command) room → HasRoom bounds.contexts (event_of line.command) copy →
-      IsAccepted bounds journal 1 event again room copy
-  accepted event again room copy e a r c =
-      rw (e, a) (record {
-        fits = each_fits journal 1 (event_of line.command);
-        same = refl;
-        events = rw before.shared (omega (arith, before.counted));
-        contexts = may_make line.command refl;
-        room_brought = r;
-        copy_brought = c;
-      })
+-- a thread has no more commands than all
+pub found_length : (threads : List (List CommandLine)) (i : ℕ) (lines : List CommandLine) → slice_get threads i ≡ Some lines → length lines ≤ sum_by length threads
+found_length [] i lines found = cc
+found_length (t ∷ ts) zero lines found =
+    let same : t ≡ lines = cc in omega (arith, ap (λ (l : List CommandLine). length l) same, sum_by-cons (λ (l : List CommandLine). length l) t ts)
+found_length (t ∷ ts) (suc i) lines found =
+    omega (arith, found_length ts i lines found, sum_by-cons (λ (l : List CommandLine). length l) t ts)
 
-  -- what holds when one command more has run
-  pub IsSoFar-push : (event : Event) (reply : Reply) → event ≡ event_of line.command → IsReply journal event reply →
-      IsSoFar lines (i + 1) bounds (journal ++ (record { thread = 1; event = event; reply = reply }) ∷ []) (ends ++ (record { lines = []; outcome = Replied reply }) ∷ [])
-  IsSoFar-push event reply e told = record {
-    shared = before.shared;
-    alone = λ front_part entry after parts. elim (push_parts journal front_part after (record { thread = 1; event = event; reply = reply }) entry parts) [
-      | inl p ↦ sym (ap (λ (x : Entry). x.thread) p.1)
-      | inr p ↦ before.alone front_part entry p.0 p.1
-    ];
-    runs = rw (front, own_entries-push journal (record { thread = 1; event = event; reply = reply }) 1)
-        (RunsThread-push (take i lines) (own_entries journal 1) ((event, reply) ∷ []) ends line (record { lines = []; outcome = Replied reply }) before.runs
-        (record { reply = reply; asked = ap (λ (x : Event). (x, reply) ∷ []) e; told = refl }));
-    counted = used_events-push journal event reply ∙ ap (λ n. n + 1) before.counted;
-    made = omega (arith, used_contexts-push journal event reply, one_more, before.made, made_at_most journal line.command reply (subst (λ (x : Event). IsReply journal x reply) e told));
-  }
+-- nothing was answered yet
+steps_none : (events : List Event) → steps_of events [] ≡ []
+steps_none [] = refl
+steps_none (e ∷ es) = refl
 
--- what holds when all commands have run
-pub finished : (lines : List CommandLine) (i : ℕ) (bounds : Bounds) (journal : List Entry) (ends : List CommandEnd) →
-    IsSoFar lines i bounds journal ends → length lines ≤ i → IsLegal journal → RunsAlone lines ends journal
-finished lines i bounds journal ends before all legal = record {
-  legal = legal;
-  alone = before.alone;
-  runs = subst (λ (ls : List CommandLine). RunsThread ls (own_entries journal 1) ends) (take_all i lines all) before.runs;
-}
+pub fresh_stand : (lines : List CommandLine) (flow : Thread) → flow ≡ fresh (commands_of lines) → (stand_of flow ≡ Stand.Fresh) × (trace_of flow ≡ [])
+fresh_stand lines flow is =
+    subst (λ (f : Thread). (stand_of f ≡ Stand.Fresh) × (trace_of f ≡ [])) (sym is) (refl, steps_none (events_of (commands_of lines)))
+
+pub flow_drives : (threads : List (List CommandLine)) (bounds : Bounds) (fixed : Fixed) (flows : List Thread) (i : ℕ) (flow : Thread) →
+    bounds ≡ bounds_of (map share_for threads) → fixed ≡ fixed_by bounds → flows ≡ map (λ lines. fresh (commands_of lines)) threads →
+    slice_get flows i ≡ Some flow →
+    CanDrive (λ (o : Order NoCode). o.event) (IsAllowed fixed) (λ journal t order. IsAccepted fixed journal t order)
+    (λ journal entry. None) (IsNext flow.commands) (λ trace order. ⊥) (λ trace order reply code. CanCome trace order reply code) (i + 1)
+flow_drives threads bounds fixed flows i flow made is begun found =
+    let at = mapped_at (λ lines. fresh (commands_of lines)) threads i flow (ap (λ fs. slice_get fs i) (sym begun) ∙ found) in
+    let shares : (part : Share → ℕ) → part_of part bounds.shares (i + 1) ≡ part (share_for at.0) =
+    λ part. ap (λ (b : Bounds). part_of part b.shares (i + 1)) made ∙ share_at threads i at.0 at.1 part in
+    subst (λ (f : Fixed). CanDrive (λ (o : Order NoCode). o.event) (IsAllowed f) (λ journal t order. IsAccepted f journal t order)
+    (λ journal entry. None) (IsNext flow.commands) (λ trace order. ⊥) (λ trace order reply code. CanCome trace order reply code) (i + 1)) (sym is)
+    (subst (λ cs. CanDrive (λ (o : Order NoCode). o.event) (IsAllowed (fixed_by bounds)) (λ journal t order. IsAccepted (fixed_by bounds) journal t order)
+    (λ journal entry. None) (IsNext cs) (λ trace order. ⊥) (λ trace order reply code. CanCome trace order reply code) (i + 1)) (sym (ap (λ (f : Thread). f.commands) at.2))
+    (can_drive bounds (i + 1) at.0 shares))
+
+map_at : {X Y : Type 0} (f : X → Y) (xs : List X) (i : ℕ) (x : X) → slice_get xs i ≡ Some x → slice_get (map f xs) i ≡ Some (f x)
+map_at f xs i x at = slice_get-map f xs i ∙ ap (option_map f) at
+
+-- what the drive of the flows leaves is a run of the script
+pub driven : (script : Script) (schedule : List ℕ) (bounds : Bounds) (flows : List Thread) (journal : List Entry) (ends : List (List CommandEnd)) →
+    flows ≡ map (λ lines. fresh (commands_of lines)) script.threads → IsAllowed (fixed_by bounds) journal →
+    IsOfThreads (length flows) journal → TakesTurns (length flows) journal schedule → length ends ≡ length flows →
+    ((i : ℕ) (flow : Thread) (end : List CommandEnd) → slice_get flows i ≡ Some flow → slice_get ends i ≡ Some end →
+    IsEnd flow.commands (own_steps (λ j e. None) journal (i + 1)) end) → RunsScript script schedule journal ends
+driven script schedule bounds flows journal ends begun allowed threads turns count each =
+    let all : length flows ≡ length script.threads = ap length begun ∙ length-map script.threads (λ lines. fresh (commands_of lines)) in
+    record {
+      good = record {
+        legal = allowed.proper.legal;
+        threads = subst (λ n. IsOfThreads n journal) all threads;
+        one_end_each = count ∙ all;
+        runs = λ i lines end at_lines at_end assemblies.
+            let at_flow = ap (λ fs. slice_get fs i) begun ∙ map_at (λ ls. fresh (commands_of ls)) script.threads i lines at_lines in
+            subst (λ steps. RunsThread (commands_of lines) assemblies [] steps end) (own_steps-entries (λ j e. None) journal (i + 1))
+            (each i (fresh (commands_of lines)) end at_flow at_end assemblies);
+      };
+      turns = subst (λ n. TakesTurns n journal schedule) all turns;
+    }
+
+pub commands-length : (lines : List CommandLine) → length (commands_of lines) ≡ length lines
+commands-length lines = length-map lines (λ (line : CommandLine). line.command)
+
+pub flow_found : (flows others : List Thread) (i : ℕ) (flow : Thread) → flows ≡ others → slice_get flows i ≡ Some flow → slice_get others i ≡ Some flow
+flow_found flows others i flow same found = ap (λ fs. slice_get fs i) (sym same) ∙ found

@@ -1,6 +1,7 @@
 -- Words that ask for something.
 use Rattle.std.proofs.Common.{◌≡◌, ℕ, true, List, [], ◌∷◌, length, get_or, Option, Some, None, IfNone, arith, codes}
-use Rattle.alc_program.specs.Words.{Request, Asks, is_schedule}
+use Rattle.host_threads.specs.Turns.{is_schedule}
+use Rattle.alc_program.specs.Words.{Request, Asks}
 use Rattle.alc_program.specs.Words.Request.{steps, inspect}
 
 -- a list of three elements is these

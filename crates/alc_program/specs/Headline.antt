@@ -5,15 +5,15 @@ use Rattle.host_events.specs.declared.outcome.CommandEnd.{CommandEnd}
 use Rattle.plug_io.specs.Faults.{HasRisen}
 use Rattle.plug_io.specs.Sink.{HasAppended}
 use Rattle.assembly_image.specs.Reading.{FileReading}
-use Rattle.alc_program.specs.declared.script.Script.{Script}
+use Rattle.host_script.specs.declared.script.Script.{Script}
 use Rattle.alc_program.specs.declared.status.Status.{Status}
 use Rattle.alc_program.specs.declared.status.Status.TheVariants.{Done, Usage, Script as Refused, ReadFault, WriteFault, OutOfMemory}
 use Rattle.alc_program.specs.Good.{RunsScript}
 use Rattle.alc_program.specs.Inspect.{ReadsAs}
 use Rattle.alc_program.specs.Inspection.{inspection_text}
-use Rattle.alc_program.specs.Line.{HasStopped}
+use Rattle.host_report.specs.Line.{HasStopped}
 use Rattle.alc_program.specs.Load.{HoldsScript, RefusesFile}
-use Rattle.alc_program.specs.Report.{report_text}
+use Rattle.host_report.specs.Report.{report_text}
 use Rattle.alc_program.specs.Words.{Request, Asks}
 use Rattle.alc_program.specs.Words.Request.{steps, inspect}
 
@@ -66,7 +66,7 @@ IsAnswerToSteps file schedule files out Done =
 IsAnswerToSteps file schedule files out WriteFault =
     (text : List ℕ) × IsReport files.before file schedule text × WritesPart out text × HasFailed out
 IsAnswerToSteps file schedule files out (Refused line cause) =
-    (line ≡ 0) × RefusesFile files.before file cause × WritesNothing out
+    RefusesFile files.before file line cause × WritesNothing out
 IsAnswerToSteps file schedule files out ReadFault = HasFailed files × WritesNothing out
 IsAnswerToSteps file schedule files out OutOfMemory = WritesNothing out
 IsAnswerToSteps file schedule files out _ = ⊥

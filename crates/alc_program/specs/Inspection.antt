@@ -13,7 +13,7 @@ use Rattle.assembly_image.specs.Module.{Module, count}
 use Rattle.assembly_image.specs.Names.{assembly_name, assembly_version, reference_name, reference_version, full_name}
 use Rattle.assembly_image.specs.Reading.{FileReading, image_limit}
 use Rattle.assembly_image.specs.Reading.FileReading.{Absent, TooLong, Refused, Good}
-use Rattle.alc_program.specs.Quote.{quoted}
+use Rattle.host_report.specs.Quote.{quoted}
 
 -- the check for which a file is no image, and the byte of which it speaks
 abbrev pub bad_image_text : CheckCode → ℕ → List ℕ

@@ -1,13 +1,21 @@
 -- Laws over the definitions of this crate (own).
-use Rattle.std.specs.Prelude.{ℕ, ◌≡◌, List, length}
+use Rattle.std.specs.Prelude.{ℕ, ◌≡◌, List}
 use Rattle.host_events.specs.declared.journal.Entry.{Entry}
 use Rattle.host_events.specs.declared.outcome.CommandEnd.{CommandEnd}
-use Rattle.alc_program.specs.declared.script.Script.{Script}
-use Rattle.alc_program.specs.Good.{RunsScript}
+use Rattle.host_events.specs.Files.{no_files}
+use Rattle.host_events.specs.Journal.{IsProper}
+use Rattle.host_script.specs.declared.script.Script.{Script}
+use Rattle.alc_program.specs.Good.{IsGood, RunsScript}
 
--- a script of one thread and a schedule have at most one journal, and at most one list of ends
+-- a script and a schedule have at most one journal, and at most one list of ends
 abbrev pub HasOneRun : Type 0
 HasOneRun =
     (script : Script) (schedule : List ℕ) (journal other : List Entry) (ends others : List (List CommandEnd)) →
-    length script.threads ≡ 1 → RunsScript script schedule journal ends → RunsScript script schedule other others →
+    RunsScript script schedule journal ends → RunsScript script schedule other others →
     (journal ≡ other) × (ends ≡ others)
+
+-- in a good journal each entry came where it fits
+abbrev pub GoodIsProper : Type 0
+GoodIsProper =
+    (script : Script) (journal : List Entry) (ends : List (List CommandEnd)) →
+    IsGood script journal ends → IsProper no_files journal

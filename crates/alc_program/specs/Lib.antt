@@ -3,13 +3,9 @@ pub mod Headline
 pub mod Inspect
 pub mod Inspection
 pub mod Laws
-pub mod Line
 pub mod Load
-pub mod OneThread
-pub mod Quote
-pub mod Report
-pub mod Run
-pub mod Script
+pub mod Shares
 pub mod Status
+pub mod Unbuilt
 pub mod Verb
 pub mod Words

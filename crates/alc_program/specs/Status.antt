@@ -2,8 +2,7 @@
 use Rattle.std.specs.Prelude.{ℕ, List, [], ◌++◌, codes, decimal}
 use Rattle.std.specs.declared.io.ErrorKind.{ErrorKind}
 use Rattle.std.specs.declared.io.ErrorKind.TheVariants as kind
-use Rattle.alc_program.specs.declared.script.LineCause.{LineCause}
-use Rattle.alc_program.specs.declared.script.LineCause.TheVariants.{Absent, TooLong, NotBuilt}
+use Rattle.host_script.specs.Cause.{cause_name}
 use Rattle.alc_program.specs.declared.status.Status.{Status}
 use Rattle.alc_program.specs.declared.status.Status.TheVariants.{Done, Usage, Script, ReadFault, WriteFault, OutOfMemory}
 
@@ -20,11 +19,6 @@ exit_status (Script line cause) = 2
 exit_status ReadFault = 3
 exit_status WriteFault = 4
 exit_status OutOfMemory = 5
-
-abbrev pub cause_name : LineCause → List ℕ
-cause_name Absent = codes "Absent"
-cause_name TooLong = codes "TooLong"
-cause_name NotBuilt = codes "NotBuilt"
 
 -- the line on standard error, without its line feed: there is none where all is done
 abbrev pub status_line : Status → List ℕ

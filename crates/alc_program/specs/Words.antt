@@ -1,14 +1,6 @@
 -- What the words of the command line ask for (own).
-use Rattle.std.specs.Prelude.{ℕ, Bool, ◌≡◌, ◌&&◌, List, [], ◌∷◌, length, codes, IsTrue, nat_le}
-use Rattle.std.specs.List.{list_all}
-use Rattle.std.specs.Char.{is_ascii_digit}
-
--- a schedule: 1 to 64 digits
-abbrev pub is_schedule : List ℕ → Bool
-is_schedule digits = nat_le 1 (length digits) && nat_le (length digits) 64 && list_all is_ascii_digit digits
-
-abbrev pub IsSchedule : List ℕ → Type 0
-IsSchedule digits = IsTrue (is_schedule digits)
+use Rattle.std.specs.Prelude.{ℕ, ◌≡◌, List, [], ◌∷◌, codes}
+use Rattle.host_threads.specs.Turns.{IsSchedule}
 
 -- what can be asked for
 pub data Request : Type 0 where

@@ -5,9 +5,9 @@ ghost use Rattle.alc_program.specs.Headline.{During, IsAnswerToInspect, WritesNo
 ghost use Rattle.alc_program.specs.Inspect.{ReadsAs, meaning};
 
 use crate::inspection::{IMAGE_LIMIT, Reading, write_inspection};
-use crate::line::Line;
 use crate::status::Status;
 use assembly_image::{ImageFault, read_image};
+use host_report::Line;
 use plug_io::{Files, Found, Sink};
 use std::alloc::Global;
 use std::sync::Arc;

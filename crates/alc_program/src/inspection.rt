@@ -12,14 +12,13 @@ ghost use Rattle.assembly_image.specs.Names.{type_name, type_namespace};
 ghost use Rattle.assembly_image.specs.Reading.{module_of};
 ghost use Rattle.alc_program.specs.Inspect.{meaning};
 ghost use Rattle.alc_program.specs.Inspection as spec;
-ghost use Rattle.alc_program.specs.Line.{HasStopped, Puts};
-ghost use Rattle.alc_program.specs.Quote.{units_text, quoted, IsApart};
+ghost use Rattle.host_report.specs.Line.{HasStopped, Puts};
+ghost use Rattle.host_report.specs.Quote.{units_text, quoted, IsApart};
 
-use crate::line::{Line, flush, put, put_number};
-use crate::quote::{put_quoted, put_quoted_text, put_text};
 use assembly_image::{AssemblyImage, Member};
 use assembly_name::Version;
 use cli_words::{CheckCode, FailedCheck};
+use host_report::{Line, flush, put, put_number, put_quoted, put_quoted_text, put_text};
 use metadata_tables::{column, table};
 use plug_io::{Failed, Sink};
 

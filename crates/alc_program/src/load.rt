@@ -1,10 +1,12 @@
-ghost use Rattle.std.specs.Prelude.{◌≡◌, ◌≤◌, List, ℕ, MatchResult, IfOk, IfErr};
-ghost use Rattle.alc_program.specs.OneThread.{HasOneThread};
+ghost use Rattle.std.specs.Prelude.{◌≡◌, ◌≤◌, List, [], ℕ, IfOk, IfErr, length};
+ghost use Rattle.host_script.specs.Script.{Accepts};
 ghost use Rattle.alc_program.specs.Headline.{During, IsAnswerToSteps, WritesNothing, during};
-ghost use Rattle.alc_program.specs.Load.{HoldsScript};
+ghost use Rattle.alc_program.specs.Load.{HoldsScript, IsBytesStatus, script_limit};
+ghost use Rattle.alc_program.specs.Unbuilt.{IsLeast, unbuilt_lines};
 
-use crate::script::{LineCause, Script, ScriptFault, read_script};
 use crate::status::Status;
+use crate::unbuilt::first_unbuilt;
+use host_script::{LineCause, Script, ScriptFault, read_script};
 use plug_io::{Files, Found};
 use std::alloc::Global;
 
@@ -14,7 +16,6 @@ const SCRIPT_LIMIT: usize = 1_048_576;
 /// The script that the file holds, or the status that tells why there is none.
 pub fn load<F: Files>(alloc: Global, files: &mut F, file: &str) -> Result<Script, Status>
     ensures script { IfOk result (λ script. HoldsScript (F.held files.old) file.now script) }
-    ensures one_thread { IfOk result HasOneThread }
     ensures status { IfErr result (λ status. (schedule : List ℕ) (out : During (List ℕ)) →
         WritesNothing out → IsAnswerToSteps file.now schedule
         (during F.held F.faults files.old files.new) out status) }
@@ -22,15 +23,40 @@ pub fn load<F: Files>(alloc: Global, files: &mut F, file: &str) -> Result<Script
     ensures faults { F.faults files.old ≤ F.faults files.new }
 {
     match files.read(alloc, file, SCRIPT_LIMIT) {
-        Found::Bytes(bytes) => match read_script(alloc, &bytes) {
-            Ok(script) => Ok(script),
-            Err(ScriptFault::At { line, cause }) => Err(Status::Script { line, cause }),
-            Err(ScriptFault::OutOfMemory) => Err(Status::OutOfMemory),
-        },
+        Found::Bytes(bytes) => load_bytes(alloc, &bytes),
         Found::Absent => Err(refusal(LineCause::Absent)),
         Found::TooLong => Err(refusal(LineCause::TooLong)),
         Found::Failed => Err(Status::ReadFault),
         Found::OutOfMemory => Err(Status::OutOfMemory),
+    }
+}
+
+/// The script that the bytes spell, if all its lines are run.
+fn load_bytes(alloc: Global, bytes: &[u8]) -> Result<Script, Status>
+    requires { length bytes.now ≤ script_limit }
+    ensures script { IfOk result (λ script.
+        Accepts bytes.now script × (unbuilt_lines script ≡ [])) }
+    ensures status { IfErr result (IsBytesStatus bytes.now) }
+{
+    match read_script(alloc, bytes) {
+        Ok(script) => all_built(script),
+        Err(ScriptFault::At { line, cause }) => Err(Status::Script { line, cause }),
+        Err(ScriptFault::OutOfMemory) => Err(Status::OutOfMemory),
+    }
+}
+
+/// The script, if all its lines are run.
+fn all_built(script: Script) -> Result<Script, Status>
+    ensures script { IfOk result (λ same. (same ≡ script) × (unbuilt_lines script ≡ [])) }
+    ensures status { IfErr result (λ status. (line : ℕ) × IsLeast (unbuilt_lines script) line
+        × (status ≡ Status.Script line LineCause.NotBuilt)) }
+{
+    match first_unbuilt(&script) {
+        None => Ok(script),
+        Some(line) => Err(Status::Script {
+            line,
+            cause: LineCause::NotBuilt,
+        }),
     }
 }
 

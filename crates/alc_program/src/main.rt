@@ -5,19 +5,16 @@
 mod inspect;
 mod inspection;
 mod laws;
-mod line;
 mod load;
 mod program;
-mod quote;
-pub mod report;
 mod run;
-pub mod script;
 mod status;
 #[cfg(test)]
 mod tests;
+mod unbuilt;
 mod words;
 
-pub use laws::one_run;
+pub use laws::{good_is_proper, one_run};
 use plug_io::{DirFiles, OpenGate, StdSink};
 pub use program::{alc, alc_alone};
 pub use status::Status;

@@ -1,24 +1,23 @@
-//! The run of a script's one thread over the host.
-ghost use Rattle.std.specs.Prelude.{◌≡◌, ◌≤◌, ℕ, List, [], ◌∷◌, length, IfOk};
-ghost use Rattle.host_events.specs.declared.outcome.CommandEnd.{CommandEnd};
-ghost use Rattle.host_core.specs.Accepted.{HasRoom, room_for};
+//! The run of a script over the host, its threads in turn.
+ghost use Rattle.std.specs.Prelude.{ℕ, ◌≡◌, ◌<◌, ◌≤◌, ◌^◌, List, [], IfOk, IsSome, All, if◌then◌else◌, length, map, sum_by};
+ghost use Rattle.host_core.specs.Allowed.{makes_context_by, makes_handle_by, sets_rule_by};
 ghost use Rattle.host_core.specs.Bounds.{bounds_of};
-ghost use Rattle.alc_program.specs.Good.{RunsScript};
-ghost use Rattle.alc_program.specs.Run.{event_of, kind_of};
-ghost use Rattle.alc_program.specs.OneThread.{is_new, new_count, share_for, HasOneThread};
-ghost use Rattle.alc_program.specs.OneThread.{RunsAlone};
+ghost use Rattle.host_script.specs.declared.command.CommandLine.{CommandLine};
+ghost use Rattle.host_script.specs.Laws.{IsSmall};
+ghost use Rattle.host_threads.specs.Turns.{IsSchedule};
+ghost use Rattle.command_flow.specs.Events.{event_of};
+ghost use Rattle.command_flow.specs.Flow.{fresh};
+ghost use Rattle.alc_program.specs.Good.{RunsScript, commands_of};
+ghost use Rattle.alc_program.specs.Shares.{asks_for, share_for};
+ghost use Rattle.alc_program.specs.Unbuilt.{unbuilt_lines};
 
-use crate::script::{Command, CommandLine, Script};
-use cli_words::Units;
+use cli_words::Listed;
+use command_flow::{NoCode, ThreadFlow};
 use host_core::{Bounds, HostCore, Share};
-use host_events::{
-    CommandEnd, ContextKind, End, Event, Journal, Lines, Numbers, Order, Outcome, Reply, Room, Text,
-};
+use host_events::{End, Journal};
+use host_script::{Command, CommandLine, Script};
+use host_threads::run_by_seed;
 use std::alloc::{AllocError, Global};
-use std::convert::Infallible;
-
-/// The number of the one thread.
-const THREAD: u32 = 1;
 
 /// What a run of a script leaves.
 #[derive(Drop)]
@@ -28,131 +27,110 @@ pub struct Run {
     pub journal: Journal,
 }
 
-/// Runs a script of one thread to its end.
-pub fn run_script(alloc: Global, script: &Script) -> Result<Run, AllocError>
-    requires { HasOneThread script.now }
-    ensures { IfOk result (λ run. (schedule : List ℕ) →
-        RunsScript script.now schedule run.journal run.ends.items) }
+/// Runs a script to its end, in the turns of the schedule.
+pub fn run_script(alloc: Global, script: Script, schedule: &[u8]) -> Result<Run, AllocError>
+    requires small { IsSmall script }
+    requires built { unbuilt_lines script ≡ [] }
+    requires schedule { IsSchedule schedule.now }
+    ensures { IfOk result (λ run. RunsScript script schedule.now run.journal run.ends.items) }
 {
-    let mut ends = Vec::with_capacity(alloc, 1)?;
-    let (end, journal) = run_thread(alloc, script.threads.items()[0].items())?;
-    ends.push(end)?;
-    Ok(Run { ends, journal })
+    let threads = script.threads.into_vec();
+    let bounds = bounds_for(alloc, threads.as_slice())?;
+    let host: HostCore<NoCode> = HostCore::open(alloc, bounds)?;
+    let flows = flows_for(alloc, threads)?;
+    let (host, ends) = run_by_seed(alloc, host, flows, schedule)?;
+    Ok(Run {
+        ends,
+        journal: host.into_journal(),
+    })
 }
 
-/// Gives the commands' events to the host one after another.
-fn run_thread(alloc: Global, lines: &[CommandLine]) -> Result<(End, Journal), AllocError>
-    requires { length lines.now ≤ 1024 }
-    ensures { IfOk result (λ run. RunsAlone lines.now run.0 run.1) }
+/// The bounds of a run: those of the shares of its threads.
+fn bounds_for(alloc: Global, threads: &[Listed<CommandLine>]) -> Result<Bounds, AllocError>
+    requires some { 1 ≤ length threads.now }
+    requires few { length threads.now ≤ 8 }
+    requires commands { sum_by length threads.now ≤ 1024 }
+    ensures { IfOk result (λ bounds. bounds ≡ bounds_of (map share_for threads.now)) }
 {
-    let bounds = bounds_for(alloc, lines)?;
-    let contexts = bounds.contexts;
-    let mut core: HostCore<Infallible> = HostCore::open(alloc, bounds)?;
-    let mut ends = Vec::with_capacity(alloc, lines.len())?;
-    for line in lines {
-        let order = order_for(alloc, &line.command, contexts)?;
-        let answer = core.apply(THREAD, order);
-        ends.push(end_with(alloc, answer.reply))?;
+    let mut shares = Vec::with_capacity(alloc, threads.len())?;
+    for commands in threads {
+        shares.push(share_of(commands.items()))?;
     }
-    Ok((End::of(ends), core.into_journal()))
-}
-
-/// The bounds of a run: an event for each command, and a context for each `new`.
-fn bounds_for(alloc: Global, lines: &[CommandLine]) -> Result<Bounds, AllocError>
-    requires { length lines.now ≤ 1024 }
-    ensures { IfOk result (λ bounds. bounds ≡ bounds_of (share_for lines.now ∷ [])) }
-{
-    let mut shares = Vec::with_capacity(alloc, 1)?;
-    shares.push(Share {
-        events: lines.len() as u32,
-        contexts: new_count(lines) as u32,
-        handles: 0,
-        rules: 0,
-    })?;
     Bounds::of(alloc, shares)
 }
 
-/// How many of the commands are `new`.
-fn new_count(lines: &[CommandLine]) -> usize
-    ensures { result ≡ new_count lines.now }
+/// What a thread of these commands may make.
+fn share_of(commands: &[CommandLine]) -> Share
+    requires { length commands.now ≤ 1024 }
+    ensures { result ≡ share_for commands.now }
 {
-    lines.iter().filter(|line| is_new(&line.command)).count()
+    let mut contexts = 0;
+    let mut handles = 0;
+    let mut rules = 0;
+    for line in commands {
+        contexts += one_if(makes_context(&line.command));
+        handles += one_if(makes_handle(&line.command));
+        rules += one_if(sets_rule(&line.command));
+    }
+    Share {
+        events: commands.len() as u32,
+        contexts,
+        handles,
+        rules,
+    }
 }
 
-fn is_new(command: &Command) -> bool
-    ensures { result ≡ is_new command.now }
+fn one_if(counts: bool) -> u32
+    ensures { result ≡ if counts then 1 else 0 }
+{
+    if counts { 1 } else { 0 }
+}
+
+fn makes_context(command: &Command) -> bool
+    ensures { result ≡ asks_for makes_context_by command.now }
 {
     matches!(command, Command::New { .. })
 }
 
-/// The order of a command's event, with room for as many contexts as there may be.
-fn order_for(
+fn makes_handle(command: &Command) -> bool
+    ensures { result ≡ asks_for makes_handle_by command.now }
+{
+    matches!(command, Command::Weak { .. })
+}
+
+fn sets_rule(command: &Command) -> bool
+    ensures { result ≡ asks_for sets_rule_by command.now }
+{
+    matches!(
+        command,
+        Command::On { .. } | Command::Resolving { .. } | Command::Resolve { .. }
+    )
+}
+
+/// The flows of the threads.
+fn flows_for(
     alloc: Global,
-    command: &Command,
-    contexts: u32,
-) -> Result<Order<Infallible>, AllocError>
-    ensures event { IfOk result (λ order. order.event ≡ event_of command.now) }
-    ensures again { IfOk result (λ order. order.again ≡ event_of command.now) }
-    ensures room { IfOk result (λ order. HasRoom contexts (event_of command.now) order.room) }
-    ensures copy { IfOk result (λ order. HasRoom contexts (event_of command.now) order.copy) }
+    threads: Vec<Listed<CommandLine>>,
+) -> Result<Vec<ThreadFlow>, AllocError>
+    requires few { sum_by length threads.items ≤ 1024 }
+    requires built { All (λ lines. All (λ command. IsSome (event_of command)) (commands_of lines)) threads.items }
+    ensures { IfOk result (λ flows. flows.items ≡ map (λ lines. fresh (commands_of lines)) threads.items) }
 {
-    let spare = match command {
-        Command::Collect => contexts,
-        _ => 0,
-    };
-    Ok(Order {
-        event: event_of(alloc, command)?,
-        again: event_of(alloc, command)?,
-        code: None,
-        room: room_for(alloc, spare)?,
-        copy: room_for(alloc, spare)?,
-    })
-}
-
-/// The one event of a command.
-fn event_of(alloc: Global, command: &Command) -> Result<Event, AllocError>
-    ensures { IfOk result (λ event. event ≡ event_of command.now) }
-{
-    match command {
-        Command::New { context, fixed } => Ok(Event::New {
-            name: context.share(alloc)?,
-            kind: kind_of(*fixed),
-        }),
-        Command::Unload { context } => Ok(Event::Unload {
-            name: context.share(alloc)?,
-        }),
-        Command::Collect => Ok(Event::Collect),
+    let mut flows = Vec::with_capacity(alloc, threads.len())?;
+    for lines in threads {
+        let commands = commands_of(alloc, lines)?;
+        flows.push(ThreadFlow::new(alloc, commands)?)?;
     }
+    Ok(flows)
 }
 
-fn kind_of(fixed: bool) -> ContextKind
-    ensures { result ≡ kind_of fixed }
+/// The commands, without the lines on which they stand.
+fn commands_of(alloc: Global, lines: Listed<CommandLine>) -> Result<Vec<Command>, AllocError>
+    ensures { IfOk result (λ commands. commands.items ≡ commands_of lines) }
 {
-    if fixed {
-        ContextKind::Fixed
-    } else {
-        ContextKind::Collectible
+    let mut commands = Vec::with_capacity(alloc, lines.items().len())?;
+    for line in lines.into_vec() {
+        commands.push(line.command)?;
     }
-}
-
-/// Room for so many context numbers, and for no text.
-fn room_for(alloc: Global, numbers: u32) -> Result<Room, AllocError>
-    ensures { IfOk result (λ room. room ≡ room_for numbers) }
-{
-    Ok(Room {
-        numbers: Numbers::new(alloc, numbers)?,
-        first: Text::new(alloc, 0)?,
-        second: Text::new(alloc, 0)?,
-        third: Text::new(alloc, 0)?,
-    })
-}
-
-/// The end of a command that is one event: it prints nothing.
-fn end_with(alloc: Global, reply: Reply) -> CommandEnd
-    ensures { result ≡ record { lines = []; outcome = Outcome.Replied reply } }
-{
-    CommandEnd {
-        lines: Lines::of(Vec::new(alloc)),
-        outcome: Outcome::Replied(reply),
-    }
+    Ok(commands)
 }

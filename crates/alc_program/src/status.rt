@@ -1,7 +1,7 @@
 ghost use Rattle.std.specs.Prelude.{◌≡◌, Some};
 ghost use Rattle.alc_program.specs.Status.{exit_status, status_line, unread_status};
 
-use crate::script::LineCause;
+use host_script::LineCause;
 use std::fmt;
 use std::io::ErrorKind;
 

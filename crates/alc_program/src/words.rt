@@ -2,7 +2,8 @@ ghost use Rattle.std.specs.Prelude.{◌≡◌, List, ℕ, IfSome, IfNone, map, s
 ghost use Rattle.std.specs.List.{list_all};
 ghost use Rattle.std.specs.Char.{is_ascii_digit};
 ghost use Rattle.alc_program.specs.Verb.{request_of};
-ghost use Rattle.alc_program.specs.Words.{Request, Asks, is_schedule};
+ghost use Rattle.host_threads.specs.Turns.{is_schedule};
+ghost use Rattle.alc_program.specs.Words.{Request, Asks};
 ghost use Rattle.alc_program.specs.Words.Request.{steps, inspect};
 
 /// The most digits of a schedule.

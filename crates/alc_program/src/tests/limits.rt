@@ -1,17 +1,17 @@
 //! Runs and inspections as long as there may be, with ample memory.
 use super::devices::answer;
-use crate::script::{LineCause, MAX_COMMANDS};
 use crate::status::Status;
 use assembly_name::Version;
 use cli_words::{Listed, Utf8Text};
+use host_script::{LineCause, MAX_COMMANDS};
 use image_maker::{FieldRow, Module, TypeRow, make};
 use std::alloc::{AllocError, Global};
 use std::test::Fail;
 
-const REFUSED: Status = Status::Script {
-    line: 0,
-    cause: LineCause::NotBuilt,
-};
+/// The answer to a script that is refused at this line.
+fn refused(line: u32, cause: LineCause) -> Status {
+    Status::Script { line, cause }
+}
 
 /// Room for the outputs of these tests.
 const LONG_ROOM: usize = 8_388_608;
@@ -115,9 +115,9 @@ fn runs_the_longest_scripts(rt: HostRuntime) -> Result<(), Fail> {
     let held = Some(script.as_bytes());
     assert_eq!(rt;
         answer(alloc, "steps F 0", held, &[], LONG_ROOM)?.0,
-        REFUSED
+        refused(1026, LineCause::TooMany)
     );
-    for (length, want) in [(64, Status::Done), (65, REFUSED)] {
+    for (length, want) in [(64, Status::Done), (65, refused(2, LineCause::BadName))] {
         let mut script = String::from_str(alloc, "thread\nnew ")?;
         for _ in 0..length {
             script.push_str("n")?;

@@ -1,7 +1,6 @@
-use crate::report::{Line, report};
-use crate::script::Script;
 use cli_words::{Name, Units};
 use host_events::{CommandEnd, ContextKind, Entry, Event, Lines, Listed, Numbers, Outcome, Reply};
+use host_report::{Line, report};
 use plug_io::MemSink;
 use std::alloc::{AllocError, Global};
 use std::test::Fail;
@@ -45,7 +44,7 @@ const REPORT: &str = "alc 1\n\
     end\n";
 
 #[test]
-fn reports_what_no_script_asks_for_yet(rt: HostRuntime) -> Result<(), Fail> {
+fn reports_lines_and_lists(rt: HostRuntime) -> Result<(), Fail> {
     let alloc = rt.alloc();
     let mut first = Vec::new(alloc);
     for units in [
@@ -68,13 +67,10 @@ fn reports_what_no_script_asks_for_yet(rt: HostRuntime) -> Result<(), Fail> {
         reply: Reply::Exists(u32::MAX),
     };
     let journal = Listed::of(vec![in alloc; entry]?);
-    let script = Script {
-        threads: Listed::of(Vec::new(alloc)),
-    };
     let mut line = Line::new(alloc)?;
     for (room, whole) in [(4096, true), (100, false), (10, false), (0, false)] {
         let mut sink = MemSink::new(alloc, room)?;
-        let written = report(&mut line, &script, &ends, &journal, &mut sink);
+        let written = report(&mut line, &ends, &journal, &mut sink);
         assert_eq!(rt; written.is_ok(), whole);
         assert_eq!(rt; sink.written.len() == REPORT.len(), whole);
         assert!(rt; REPORT.as_bytes().starts_with(sink.written.as_slice()));

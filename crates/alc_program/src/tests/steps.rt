@@ -1,6 +1,6 @@
 use super::devices::{ROOM, answer};
-use crate::script::LineCause;
 use crate::status::Status;
+use host_script::LineCause;
 use std::test::Fail;
 
 pub(super) const LIFE: &[u8] = b"thread\nnew P\nunload P\ncollect";
@@ -17,35 +17,52 @@ pub(super) const LIFE_REPORT: &str = "alc 1\n\
     end\n";
 
 #[test]
-fn runs_plain_scripts(rt: HostRuntime) -> Result<(), Fail> {
-    for (script, report) in [
-        ("thread\nnew P\nunload P\ncollect", LIFE_REPORT),
-        ("thread", "alc 1\nthread 1\njournal 0\nend\n"),
-        ("thread\n", "alc 1\nthread 1\njournal 0\nend\n"),
+fn runs_scripts(rt: HostRuntime) -> Result<(), Fail> {
+    for (words, script, report) in [
+        ("steps F 0", "thread\nnew P\nunload P\ncollect", LIFE_REPORT),
         (
+            "steps F 9",
+            "# life\r\n\nthread\n  new   P\n unload P \ncollect\r\n",
+            LIFE_REPORT,
+        ),
+        ("steps F 0", "thread", "alc 1\nthread 1\njournal 0\nend\n"),
+        (
+            "steps F 0",
             "thread\nunload default\ncollect\ncollect",
             "alc 1\nthread 1\nFixed 0\nFreed\nFreed\njournal 3\n1 1 unload default -> Fixed 0\n\
              2 1 collect -> Freed\n3 1 collect -> Freed\nend\n",
         ),
         (
-            "thread\nnew P\nunload P\nnew P\nunload P\ncollect\nnew P",
-            "alc 1\nthread 1\nMade 1\nUnloading 1\nExists 1\nAlready 1\nFreed 1\nMade 2\n\
-             journal 6\n1 1 new P -> Made 1\n2 1 unload P -> Unloading 1\n3 1 new P -> Exists 1\n\
-             4 1 unload P -> Already 1\n5 1 collect -> Freed 1\n6 1 new P -> Made 2\nend\n",
+            "steps F 0",
+            "thread\nnew P\nunload P\nnew P\nunload P\ncollect\nnew P\nalive w",
+            "alc 1\nthread 1\nMade 1\nUnloading 1\nExists 1\nAlready 1\nFreed 1\nMade 2\nNoHandle\n\
+             journal 7\n1 1 new P -> Made 1\n2 1 unload P -> Unloading 1\n3 1 new P -> Exists 1\n\
+             4 1 unload P -> Already 1\n5 1 collect -> Freed 1\n6 1 new P -> Made 2\n\
+             7 1 alive w -> NoHandle\nend\n",
         ),
         (
-            "thread\nnew default",
-            "alc 1\nthread 1\nExists 0\njournal 1\n1 1 new default -> Exists 0\nend\n",
+            "steps F 0",
+            "thread\nnew P\nweak w P\nunload P\nalive w\ncollect\nalive w",
+            "alc 1\nthread 1\nMade 1\nWeakly 1\nUnloading 1\nAlive 1\nFreed 1\nGone 1\n\
+             journal 6\n1 1 new P -> Made 1\n2 1 weak w P -> Weakly 1\n3 1 unload P -> Unloading 1\n\
+             4 1 alive w -> Alive 1\n5 1 collect -> Freed 1\n6 1 alive w -> Gone 1\nend\n",
         ),
         (
-            "thread\nnew P\nnew a-Z_0.9\nunload a-Z_0.9\nunload P\ncollect\nunload P\n",
-            "alc 1\nthread 1\nMade 1\nMade 2\nUnloading 2\nUnloading 1\nFreed 1 2\nNoContext\n\
-             journal 6\n1 1 new P -> Made 1\n2 1 new a-Z_0.9 -> Made 2\n\
-             3 1 unload a-Z_0.9 -> Unloading 2\n4 1 unload P -> Unloading 1\n\
-             5 1 collect -> Freed 1 2\n6 1 unload P -> NoContext\nend\n",
+            "steps F 1",
+            "thread\nnew P\nthread\nnew P\non P A none",
+            "alc 1\nthread 1\nExists 1\nthread 2\nMade 1\nSet 1\njournal 3\n\
+             1 2 new P -> Made 1\n2 2 on P \"A\" none -> Set 1\n3 1 new P -> Exists 1\nend\n",
+        ),
+        (
+            "steps F 012",
+            "thread\nnew P fixed\nunload P\nthread\nresolve \"a b\" share Q\nthread\nresolving Q x none\nweak w Q",
+            "alc 1\nthread 1\nMade 1\nFixed 1\nthread 2\nSet 0\nthread 3\nNoContext\nNoContext\n\
+             journal 5\n1 1 new P fixed -> Made 1\n2 2 resolve \"a b\" share Q -> Set 0\n\
+             3 1 unload P -> Fixed 1\n4 3 resolving Q \"x\" none -> NoContext\n\
+             5 3 weak w Q -> NoContext\nend\n",
         ),
     ] {
-        let (status, out) = answer(rt.alloc(), "steps F 0", Some(script.as_bytes()), &[], ROOM)?;
+        let (status, out) = answer(rt.alloc(), words, Some(script.as_bytes()), &[], ROOM)?;
         assert_eq!(rt; status, Status::Done);
         assert_eq!(rt; out.as_slice(), report.as_bytes(), "{script}");
     }
@@ -56,34 +73,33 @@ fn runs_plain_scripts(rt: HostRuntime) -> Result<(), Fail> {
 fn refuses_what_it_cannot_run(rt: HostRuntime) -> Result<(), Fail> {
     let alloc = rt.alloc();
     let long = vec![in alloc; b'x'; 1_048_577]?;
-    for (held, cause) in [
-        (None, LineCause::Absent),
-        (Some(long.as_slice()), LineCause::TooLong),
-        (long.as_slice().get(1..), LineCause::NotBuilt),
-        (Some(b"".as_slice()), LineCause::NotBuilt),
-        (Some(b"image a x\nthread"), LineCause::NotBuilt),
-        (Some(b"\nthread"), LineCause::NotBuilt),
-        (Some(b"threads"), LineCause::NotBuilt),
-        (Some(b"thread "), LineCause::NotBuilt),
-        (Some(b"thread\r\n"), LineCause::NotBuilt),
-        (Some(b"thread\n\n"), LineCause::NotBuilt),
-        (Some(b"thread\nnew"), LineCause::NotBuilt),
-        (Some(b"thread\nnew "), LineCause::NotBuilt),
-        (Some(b"thread\nnew  P"), LineCause::NotBuilt),
-        (Some(b"thread\nnew P "), LineCause::NotBuilt),
-        (Some(b"thread\n new P"), LineCause::NotBuilt),
-        (Some(b"thread\nnew\tP"), LineCause::NotBuilt),
-        (Some(b"thread\nnew P fixed"), LineCause::NotBuilt),
-        (Some(b"thread\nnew P\r\ncollect"), LineCause::NotBuilt),
-        (Some(b"thread\nunload \x80"), LineCause::NotBuilt),
-        (Some(b"thread\ncollect P"), LineCause::NotBuilt),
-        (Some(b"thread\ncollect\n\n"), LineCause::NotBuilt),
-        (Some(b"thread\ncollect\n\ncollect"), LineCause::NotBuilt),
-        (Some(b"thread\n#x"), LineCause::NotBuilt),
-        (Some(b"thread\nthread"), LineCause::NotBuilt),
+    for (held, line, cause) in [
+        (None, 0, LineCause::Absent),
+        (Some(long.as_slice()), 0, LineCause::TooLong),
+        (long.as_slice().get(1..), 1, LineCause::UnknownWord),
+        (Some(b"".as_slice()), 1, LineCause::NoThread),
+        (Some(b"thread\nnew"), 2, LineCause::Arity),
+        (Some(b"thread\nnew P\nnew P P P"), 3, LineCause::Arity),
+        (Some(b"new P\nthread"), 1, LineCause::Place),
+        (Some(b"image a x\nthread"), 1, LineCause::NotBuilt),
+        (
+            Some(b"thread\nnew P\n\n# x\ndrop h\nload P P"),
+            6,
+            LineCause::NoImage,
+        ),
+        (
+            Some(b"thread\nnew P\n\n# x\ndrop h\ncollect"),
+            5,
+            LineCause::NotBuilt,
+        ),
+        (
+            Some(b"thread\ncollect\nthread\nbind P x 1.0.0.0"),
+            4,
+            LineCause::NotBuilt,
+        ),
     ] {
         let (status, out) = answer(alloc, "steps F 0", held, &[], ROOM)?;
-        assert_eq!(rt; status, Status::Script { line: 0, cause }, "{held:?}");
+        assert_eq!(rt; status, Status::Script { line, cause }, "{held:?}");
         assert!(rt; out.is_empty());
     }
     Ok(())

@@ -1,9 +1,9 @@
 use Rattle.std.proofs.Common.{◌≡◌, ◌-◌, ◌∙◌, ap, sym, subst, refl, arith, rules, None}
 use Rattle.assembly_image.specs.Names.{encloser, full_name_within, qualified, type_name, type_namespace}
 use Rattle.assembly_image.specs.Reading.{module_of}
-use Rattle.alc_program.specs.Quote.{units_text, IsApart}
+use Rattle.host_report.specs.Quote.{units_text, IsApart}
 use Rattle.alc_program.proofs.InspectionLemmas.{apart_whole, named_alone, named_first, named_inside, puts_joined, slash_text}
-use Rattle.alc_program.proofs.LineLemmas.{puts_as}
+use Rattle.host_report.proofs.LineLemmas.{puts_as}
 use Rattle.alc_program.proofs.inspection.+put_name_within.Goals as goal
 use Rattle.alc_program.proofs.inspection.+put_name_within.Goals.{in_default-via-in-Some+else-most-gt0, in_default-via-in_default}
 

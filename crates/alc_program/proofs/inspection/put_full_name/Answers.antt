@@ -1,4 +1,4 @@
-use Rattle.alc_program.proofs.LineLemmas.{puts_then}
+use Rattle.host_report.proofs.LineLemmas.{puts_then}
 use Rattle.alc_program.proofs.inspection.put_full_name.Goals as goal
 
 pub returns : goal.returns

@@ -3,7 +3,7 @@ use Rattle.std.specs.List.{flat_map, range_with_len}
 use Rattle.assembly_image.specs.Reading.{module_of}
 use Rattle.alc_program.specs.Inspection.{member_text}
 use Rattle.alc_program.proofs.InspectionLemmas.{listed_members, puts_row}
-use Rattle.alc_program.proofs.LineLemmas.{puts_as}
+use Rattle.host_report.proofs.LineLemmas.{puts_as}
 use Rattle.alc_program.proofs.inspection.put_members.Goals as goal
 
 pub loop-n-preserved : goal.loop-n-preserved

@@ -2,7 +2,7 @@ use Rattle.std.proofs.Common.{◌-◌, ◌≤◌}
 use Rattle.std.specs.List.{flat_map, range_with_len}
 use Rattle.assembly_image.specs.Reading.{module_of}
 use Rattle.alc_program.specs.Inspection.{member_text}
-use Rattle.alc_program.specs.Line.{Puts}
+use Rattle.host_report.specs.Line.{Puts}
 use Rattle.alc_program.proofs.inspection.put_members.Given as goal
 
 -- the members so far were put; where the list ends before it begins there are none

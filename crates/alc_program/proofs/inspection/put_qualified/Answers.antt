@@ -1,9 +1,9 @@
 use Rattle.std.proofs.Common.{◌≡◌, ◌<◌, ap, sym, subst, refl, length, rules}
 use Rattle.assembly_image.specs.Names.{type_name, type_namespace}
 use Rattle.assembly_image.specs.Reading.{module_of}
-use Rattle.alc_program.specs.Quote.{units_text, IsApart}
+use Rattle.host_report.specs.Quote.{units_text, IsApart}
 use Rattle.alc_program.proofs.InspectionLemmas.{apart_whole, dot_text, not_empty, puts_joined, within_namespace, without_namespace}
-use Rattle.alc_program.proofs.LineLemmas.{puts_as}
+use Rattle.host_report.proofs.LineLemmas.{puts_as}
 use Rattle.alc_program.proofs.inspection.put_qualified.Goals as goal
 
 pub returns-then-is_empty-clause-puts : goal.returns-then-is_empty-clause-puts

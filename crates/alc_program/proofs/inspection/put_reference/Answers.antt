@@ -1,7 +1,7 @@
 use Rattle.std.proofs.Common.{ap}
 use Rattle.alc_program.specs.Inspection.{version_text}
-use Rattle.alc_program.specs.Quote.{quoted}
-use Rattle.alc_program.proofs.LineLemmas.{puts_as, puts_then}
+use Rattle.host_report.specs.Quote.{quoted}
+use Rattle.host_report.proofs.LineLemmas.{puts_as, puts_then}
 use Rattle.alc_program.proofs.inspection.put_reference.Goals as goal
 
 pub returns : goal.returns

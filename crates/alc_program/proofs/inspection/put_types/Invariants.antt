@@ -1,7 +1,7 @@
 use Rattle.std.specs.List.{flat_map, range_with_len}
 use Rattle.assembly_image.specs.Reading.{module_of}
 use Rattle.alc_program.specs.Inspection.{type_text}
-use Rattle.alc_program.specs.Line.{Puts}
+use Rattle.host_report.specs.Line.{Puts}
 use Rattle.alc_program.proofs.inspection.put_types.Given as goal
 
 abbrev pub invariant-loop-before : goal.invariant-loop-before

@@ -1,5 +1,5 @@
 use Rattle.std.proofs.Common.{refl, sym, ◌∙◌}
-use Rattle.alc_program.proofs.LineLemmas.{put_whole, whole_appended, some_stopped}
+use Rattle.host_report.proofs.LineLemmas.{put_whole, whole_appended, some_stopped}
 use Rattle.alc_program.proofs.inspection.write_inspection.Goals as goal
 
 pub returns-then-has_failed : goal.returns-then-has_failed

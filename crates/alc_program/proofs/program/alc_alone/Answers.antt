@@ -6,11 +6,17 @@ use Rattle.alc_program.specs.declared.words.Verb.{Verb}
 use Rattle.alc_program.proofs.HeadlineLemmas.{answers_asked, answers_unasked}
 use Rattle.alc_program.proofs.program.alc_alone.Goals as goal
 
+pub steps-requires : goal.steps-requires
+steps-requires g c =
+    let asks : Asks (map string_bytes c.args.words.now) (steps c.in-Some-Steps.file.now c.in-Some-Steps.schedule.now) =
+    subst (λ (verb : Verb). Asks (map string_bytes c.args.words.now) (request_of verb)) c.in-Some-Steps.field-0-is c.in-Some-Steps.ensures.asked in
+    asks.1
+
 pub returns-in-Some-Steps-clause-headline : goal.returns-in-Some-Steps-clause-headline
 returns-in-Some-Steps-clause-headline g c =
-    let asks : Asks (map string_bytes c.args.words.now) (steps c.in-Some-Steps.file.now c.in-Some-Steps.field-0-1.now) =
+    let asks : Asks (map string_bytes c.args.words.now) (steps c.in-Some-Steps.file.now c.in-Some-Steps.schedule.now) =
     subst (λ (verb : Verb). Asks (map string_bytes c.args.words.now) (request_of verb)) c.in-Some-Steps.field-0-is c.in-Some-Steps.ensures.asked in
-    answers_asked _ (steps c.in-Some-Steps.file.now c.in-Some-Steps.field-0-1.now) _ _ _ asks (c.steps.ensures.answer c.in-Some-Steps.field-0-1.now)
+    answers_asked _ (steps c.in-Some-Steps.file.now c.in-Some-Steps.schedule.now) _ _ _ asks c.steps.ensures.answer
 
 pub returns-in-Some-Inspect-clause-headline : goal.returns-in-Some-Inspect-clause-headline
 returns-in-Some-Inspect-clause-headline g c =

@@ -1,14 +1,13 @@
-use Rattle.std.proofs.Common.{◌≡◌, ◌∷◌, [], ◌++◌, List, length, refl, ap, ◌∙◌, arith}
+use Rattle.std.proofs.Common.{◌≡◌, List, map, take, sym, subst, ap, ◌∙◌, arith}
+use Rattle.std.proofs.lemmas.List.{take_all}
 use Rattle.host_core.specs.declared.bounds.Share.{Share}
-use Rattle.alc_program.proofs.RunLemmas.{can_sum, new_count_bound}
+use Rattle.host_core.specs.Bounds.{CanSum}
+use Rattle.alc_program.specs.Shares.{share_for}
+use Rattle.alc_program.proofs.RunLemmas.{can_sum, length-le_sum}
 use Rattle.alc_program.proofs.run.bounds_for.Goals as goal
-
-pub overflow_cast-new_count : goal.overflow_cast-new_count
-overflow_cast-new_count c = omega (arith, c.new_count.ensures, new_count_bound c.args.lines.now)
 
 pub of-requires : goal.of-requires
 of-requires c =
-    let share : Share = record { events = length c.args.lines.now; contexts = c.new_count.result; handles = 0; rules = 0 } in
-    let one : c.push.new.self.items ≡ share ∷ [] =
-    c.in_ok-push.ensures.items ∙ ap (λ (shares : List Share). shares ++ share ∷ []) c.in_ok-shares.ensures.items in
-    can_sum c.push.new.self.items share one (omega arith) (omega (arith, c.new_count.ensures, new_count_bound c.args.lines.now)) refl refl
+    let whole : take c.loop-commands.commands-index c.args.threads.now ≡ c.args.threads.now = take_all c.loop-commands.commands-index c.args.threads.now (omega arith) in
+    subst (λ (shares : List Share). CanSum shares) (sym (c.loop-commands.invariant ∙ ap (map share_for) whole))
+    (can_sum c.args.threads.now c.requires.some c.requires.few c.requires.commands)

@@ -1,17 +1,47 @@
-use Rattle.std.proofs.Common.{◌≡◌, ◌∙◌, ap, sym, List, [], ◌∷◌, ◌++◌, length}
-use Rattle.host_events.specs.declared.outcome.CommandEnd.{CommandEnd}
-use Rattle.alc_program.specs.declared.script.CommandLine.{CommandLine}
-use Rattle.alc_program.proofs.TurnLemmas.{good_alone, one_thread, takes_turns_alone}
+use Rattle.std.proofs.Common.{◌≡◌, ◌≤◌, ◌+◌, List, length, map, All, sym, subst, ap, ◌∙◌, sum_by, refl, arith}
+use Rattle.std.specs.Prelude.{IsSome}
+use Rattle.host_core.specs.Core.{Core, fixed_by}
+use Rattle.host_core.specs.Allowed.{IsAllowed}
+use Rattle.host_events.specs.declared.journal.Entry.{Entry}
+use Rattle.command_flow.specs.Events.{event_of}
+use Rattle.command_flow.specs.Flow.{fresh}
+use Rattle.alc_program.specs.Good.{RunsScript, commands_of}
+use Rattle.host_core.specs.Bounds.{bounds_of}
+use Rattle.host_script.specs.declared.command.CommandLine.{CommandLine}
+use Rattle.alc_program.specs.Shares.{share_for}
+use Rattle.alc_program.proofs.RunLemmas.{driven, few_contexts, flow_drives, flow_found, fresh_stand, mapped_at, script_built}
 use Rattle.alc_program.proofs.run.run_script.Goals as goal
+
+pub open-requires-clause-numbered : goal.open-requires-clause-numbered
+open-requires-clause-numbered c =
+    let threads = c.as_slice.ensures.value ∙ c.into_vec-threads.ensures in
+    let bounds = c.in_ok-bounds.ensures ∙ ap (λ (ts : List (List CommandLine)). bounds_of (map share_for ts)) threads in
+    omega (arith, ap (λ b. b.contexts) bounds, few_contexts c.args.script.threads c.requires.small.commands)
+
+pub flows_for-requires-clause-built : goal.flows_for-requires-clause-built
+flows_for-requires-clause-built c =
+    subst (λ (ts : List (List CommandLine)). All (λ lines. All (λ command. IsSome (event_of command)) (commands_of lines)) ts)
+    (sym c.into_vec-threads.ensures) (script_built c.args.script c.requires.built)
+
+pub run_by_seed-requires-clause-fresh : goal.run_by_seed-requires-clause-fresh
+run_by_seed-requires-clause-fresh c i flow found =
+    let begun = c.in_ok-flows.ensures ∙ ap (λ (ts : List (List CommandLine)). map (λ lines. fresh (commands_of lines)) ts) c.into_vec-threads.ensures in
+    let at = mapped_at (λ lines. fresh (commands_of lines)) c.args.script.threads i flow (flow_found c.in_ok-flows.flows.items _ i flow begun found) in
+    fresh_stand at.0 flow at.2
+
+pub run_by_seed-requires-clause-drives : goal.run_by_seed-requires-clause-drives
+run_by_seed-requires-clause-drives c i flow found =
+    let threads = c.as_slice.ensures.value ∙ c.into_vec-threads.ensures in
+    let bounds = c.in_ok-bounds.ensures ∙ ap (λ (ts : List (List CommandLine)). bounds_of (map share_for ts)) threads in
+    let begun = c.in_ok-flows.ensures ∙ ap (λ (ts : List (List CommandLine)). map (λ lines. fresh (commands_of lines)) ts) c.into_vec-threads.ensures in
+    let fixed = ap (λ (h : Core). h.fixed) c.in_ok-host.ensures.host in
+    flow_drives c.args.script.threads c.in_ok-bounds.bounds c.in_ok-host.host.fixed c.in_ok-flows.flows.items i flow bounds fixed begun found
 
 pub returns : goal.returns
 returns c =
-    let one : c.args.script.now.threads ≡ c.items-2.result.now ∷ [] =
-    one_thread c.args.script.now.threads c.items.result.now c.requires.lines c.index-items-0.result c.requires.one c.items.ensures c.index-items-0.is
-    ∙ ap (λ (ls : List CommandLine). ls ∷ []) (sym c.items-2.ensures) in
-    let ends : c.push.new.self.items ≡ c.in_ok-end.end ∷ [] =
-    c.in_ok-push.ensures.items ∙ ap (λ (es : List (List CommandEnd)). es ++ c.in_ok-end.end ∷ []) c.in_ok-ends.ensures.items in
-    λ schedule. record {
-      good = good_alone c.args.script.now c.items-2.result.now c.in_ok-end.end c.push.new.self.items c.in_ok-end.journal one ends c.in_ok-end.ensures;
-      turns = takes_turns_alone (length c.args.script.now.threads) c.in_ok-end.journal schedule (ap length one) c.in_ok-end.ensures.alone;
-    }
+    let begun = c.in_ok-flows.ensures ∙ ap (λ (ts : List (List CommandLine)). map (λ lines. fresh (commands_of lines)) ts) c.into_vec-threads.ensures in
+    let fixed = ap (λ (h : Core). h.fixed) c.in_ok-host.ensures.host in
+    let run = c.in_ok-host-2.ensures in
+    subst (λ (j : List Entry). RunsScript c.args.script c.args.schedule.now j c.in_ok-host-2.ends.items) (sym c.into_journal.ensures.journal)
+    (driven c.args.script c.args.schedule.now c.in_ok-bounds.bounds c.in_ok-flows.flows.items c.in_ok-host-2.host.journal c.in_ok-host-2.ends.items
+    begun (subst (λ f. IsAllowed f c.in_ok-host-2.host.journal) fixed run.allowed) run.threads run.turns run.one_end_each run.ends)

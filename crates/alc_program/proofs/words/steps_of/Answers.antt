@@ -1,6 +1,6 @@
 use Rattle.std.proofs.Common.{◌≡◌, true, refl, sym, ap, ◌∙◌, ◌∷◌, [], arith, length, map, string_bytes, codes}
 use Rattle.std.proofs.lemmas.Slice.Eq.{bytes_eq-Decides}
-use Rattle.alc_program.specs.Words.{is_schedule}
+use Rattle.host_threads.specs.Turns.{is_schedule}
 use Rattle.alc_program.proofs.WordsLemmas.{three, asks_steps}
 use Rattle.alc_program.proofs.words.steps_of.Goals as goal
 
