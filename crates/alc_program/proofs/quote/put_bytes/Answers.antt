@@ -1,5 +1,0 @@
-use Rattle.alc_program.proofs.PlainTexts.{bytes_next}
-use Rattle.alc_program.proofs.quote.put_bytes.Goals as goal
-
-pub loop-rest-preserved : goal.loop-rest-preserved
-loop-rest-preserved g c = bytes_next c.put_front-taken.result c.args.bytes.now c.loop-rest.rest.now c.loop-rest.invariant c.put_front-taken.ensures.puts

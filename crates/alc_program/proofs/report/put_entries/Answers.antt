@@ -1,8 +1,0 @@
-use Rattle.std.proofs.Common.{arith}
-use Rattle.alc_program.specs.Report.{entry_text}
-use Rattle.alc_program.proofs.ReportLemmas.{puts_numbered}
-use Rattle.alc_program.proofs.report.put_entries.Goals as goal
-
-pub loop-i-preserved : goal.loop-i-preserved
-loop-i-preserved g c =
-    puts_numbered entry_text 1 _ _ _ _ _ c.loop-i-test.true (omega arith) c.index-entries-i.is c.loop-i.invariant c.put_entry.ensures
