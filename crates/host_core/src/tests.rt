@@ -187,7 +187,8 @@ fn contexts_live_and_die(rt: HostRuntime) -> Result<(), Fail> {
         ),
         (
             [(1, Unload(default)), (1, Collect), (1, Collect)].as_slice(),
-            "1 Fixed(0); 1 Freed(Reserved { items: [], spare: 0 }); 1 Freed(Reserved { items: [], spare: 0 }); ",
+            "1 Fixed(0); 1 Freed(Reserved { items: [], spare: 0 }); \
+             1 Freed(Reserved { items: [], spare: 0 }); ",
         ),
         (
             [(1, New(default)), (1, Fixed(default))].as_slice(),
@@ -203,7 +204,8 @@ fn contexts_live_and_die(rt: HostRuntime) -> Result<(), Fail> {
                 (1, New(p)),
             ]
             .as_slice(),
-            "1 Made(1); 1 Unloading(1); 1 Exists(1); 1 Already(1); 1 Freed(Reserved { items: [1], spare: 0 }); 1 Made(2); ",
+            "1 Made(1); 1 Unloading(1); 1 Exists(1); 1 Already(1); \
+             1 Freed(Reserved { items: [1], spare: 0 }); 1 Made(2); ",
         ),
         (
             [
@@ -215,7 +217,8 @@ fn contexts_live_and_die(rt: HostRuntime) -> Result<(), Fail> {
                 (1, Unload(q)),
             ]
             .as_slice(),
-            "1 Made(1); 2 Made(2); 2 Unloading(1); 1 Unloading(2); 2 Freed(Reserved { items: [1, 2], spare: 0 }); 1 NoContext; ",
+            "1 Made(1); 2 Made(2); 2 Unloading(1); 1 Unloading(2); \
+             2 Freed(Reserved { items: [1, 2], spare: 0 }); 1 NoContext; ",
         ),
         (
             [

@@ -63,11 +63,14 @@ pub trait Flow {
     /// Goes on to the next event or to the end: at first with no answer, later with one to what was
     /// asked last. After an end it isn't resumed, nor after it lacked memory.
     fn resume(&mut self, alloc: Global, last: Option<Self::Answer>) -> Next<Self::Order, Self::End>
-        requires { IsResumable (Takes (plan self.old) (trace self.old)) Self.Answer.reply Self.Answer.code (stand self.old) last }
+        requires { IsResumable (Takes (plan self.old) (trace self.old)) Self.Answer.reply Self.Answer.code
+            (stand self.old) last }
         ensures plan { plan self.new ≡ plan self.old }
-        ensures trace { trace self.new ≡ trace_after Self.Order.event Self.Answer.reply Self.Answer.code (trace self.old) (stand self.old) last }
+        ensures trace { trace self.new ≡ trace_after Self.Order.event Self.Answer.reply Self.Answer.code
+            (trace self.old) (stand self.old) last }
         ensures stand { stand self.new ≡ stand_after result }
-        ensures gives { Gives (Asks (plan self.new) (trace self.new)) (Ends (plan self.new) (trace self.new)) result };
+        ensures gives { Gives (Asks (plan self.new) (trace self.new))
+            (Ends (plan self.new) (trace self.new)) result };
 
     /// The order of the `Leave` of the open operation, which is still due after want of memory. It
     /// takes no memory; `None` exactly where no operation is open.

@@ -39,8 +39,10 @@ pub trait Kept: Drop {
     /// Adds one entry: the thread, the order's event and the answer's reply.
     fn step(&mut self, thread: u32, order: Self::Order) -> Self::Answer
         requires { Accepts (fixed self.old) (journal self.old) thread order }
-        ensures entry { journal self.new ≡ journal self.old ++ entry_of thread (Self.Order.event order) (Self.Answer.reply result) ∷ [] }
+        ensures entry { journal self.new ≡ journal self.old
+            ++ entry_of thread (Self.Order.event order) (Self.Answer.reply result) ∷ [] }
         ensures fixed { fixed self.new ≡ fixed self.old }
         ensures allowed { Allows (fixed self.new) (journal self.new) }
-        ensures code { Self.Answer.code result ≡ code_of (journal self.old) (entry_of thread (Self.Order.event order) (Self.Answer.reply result)) };
+        ensures code { Self.Answer.code result ≡ code_of (journal self.old)
+            (entry_of thread (Self.Order.event order) (Self.Answer.reply result)) };
 }

@@ -46,6 +46,13 @@ impl<T> Reserved<T> {
         Ok(Reserved { items, spare })
     }
 
+    /// The list of the elements of a `Vec`, with no spare.
+    pub fn of(items: Vec<T>) -> Reserved<T>
+        ensures { result ≡ sealed items.items }
+    {
+        Reserved { items, spare: 0 }
+    }
+
     /// Puts one element at the end of the list.
     pub fn push_reserved(&mut self, element: T)
         requires { 0 < self.old.spare }

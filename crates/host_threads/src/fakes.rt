@@ -212,14 +212,22 @@ impl Flow for Counting {
     ] };
 
     fn resume(&mut self, _alloc: Global, last: Option<Answer>) -> Next<Asked, usize>
-        requires { IsResumable (⟦<Counting as Flow>⟧.Takes (⟦<Counting as Flow>⟧.plan self.old) (⟦<Counting as Flow>⟧.trace self.old))
-            (λ (a : Answer). a.reply) (λ (a : Answer). a.code) (⟦<Counting as Flow>⟧.stand self.old) last }
+        requires { IsResumable
+            (⟦<Counting as Flow>⟧.Takes (⟦<Counting as Flow>⟧.plan self.old)
+            (⟦<Counting as Flow>⟧.trace self.old))
+            (λ (a : Answer). a.reply) (λ (a : Answer). a.code)
+            (⟦<Counting as Flow>⟧.stand self.old) last }
         ensures plan { ⟦<Counting as Flow>⟧.plan self.new ≡ ⟦<Counting as Flow>⟧.plan self.old }
         ensures trace { ⟦<Counting as Flow>⟧.trace self.new ≡ trace_after (λ (a : Asked). a.event)
-            (λ (a : Answer). a.reply) (λ (a : Answer). a.code) (⟦<Counting as Flow>⟧.trace self.old) (⟦<Counting as Flow>⟧.stand self.old) last }
+            (λ (a : Answer). a.reply) (λ (a : Answer). a.code)
+            (⟦<Counting as Flow>⟧.trace self.old) (⟦<Counting as Flow>⟧.stand self.old) last }
         ensures stand { ⟦<Counting as Flow>⟧.stand self.new ≡ stand_after result }
-        ensures gives { Gives (⟦<Counting as Flow>⟧.Asks (⟦<Counting as Flow>⟧.plan self.new) (⟦<Counting as Flow>⟧.trace self.new))
-            (⟦<Counting as Flow>⟧.Ends (⟦<Counting as Flow>⟧.plan self.new) (⟦<Counting as Flow>⟧.trace self.new)) result }
+        ensures gives { Gives
+            (⟦<Counting as Flow>⟧.Asks (⟦<Counting as Flow>⟧.plan self.new)
+            (⟦<Counting as Flow>⟧.trace self.new))
+            (⟦<Counting as Flow>⟧.Ends (⟦<Counting as Flow>⟧.plan self.new)
+            (⟦<Counting as Flow>⟧.trace self.new))
+            result }
     {
         if let Some(answer) = last {
             self.numbers.push(number_of(&answer.reply)).unwrap();

@@ -1,5 +1,6 @@
 //! The driver that takes turns by a schedule.
-ghost use Rattle.std.specs.Prelude.{◌≡◌, ◌<◌, ◌≤◌, ◌+◌, ◌^◌, ◌++◌, ◌∷◌, if◌then◌else◌, ◌==◌, not, ℕ, [], None, Some, length, map, IfOk};
+ghost use Rattle.std.specs.Prelude.{◌≡◌, ◌<◌, ◌≤◌, ◌+◌, ◌^◌, ◌++◌, ◌∷◌, if◌then◌else◌, ◌==◌, not};
+ghost use Rattle.std.specs.Prelude.{ℕ, [], None, Some, length, map, IfOk};
 ghost use Rattle.std.specs.List.{filter, slice_get};
 ghost use Rattle.host_events.specs.declared.flow.Next.TheVariants.{End};
 ghost use Rattle.host_events.specs.Flows.{Stand, stand_after, Gives};
