@@ -9,4 +9,5 @@ mod SpellingLemmas
 mod StateLemmas
 mod TextLemmas
 mod WordLemmas
+pub mod WordedLemmas
 pub mod SmallLemmas

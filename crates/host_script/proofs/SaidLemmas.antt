@@ -28,17 +28,17 @@ use Rattle.host_script.specs.declared.form.Form.TheVariants as form
 use Rattle.host_script.specs.declared.line_form.LineForm.{LineForm}
 use Rattle.host_script.specs.declared.line_form.LineForm.TheVariants.{Image, App, Thread, Command}
 
-unless_ok : {A : Type 0} (t : Bool) (why : LineCause) (next : Result A LineCause) (value : A) →
+pub unless_ok : {A : Type 0} (t : Bool) (why : LineCause) (next : Result A LineCause) (value : A) →
     unless t why next ≡ Ok value → (t ≡ true) × (next ≡ Ok value)
 unless_ok true why next value e = (refl, e)
 unless_ok false why next value e = cc
 
-and_then_ok : {A B : Type 0} (reading : Result A LineCause) (next : A → Result B LineCause) (value : B) →
+pub and_then_ok : {A B : Type 0} (reading : Result A LineCause) (next : A → Result B LineCause) (value : B) →
     and_then reading next ≡ Ok value → (a : A) × ((reading ≡ Ok a) × (next a ≡ Ok value))
 and_then_ok (Ok a) next value e = (a, (refl, e))
 and_then_ok (Err why) next value e = cc
 
-or_cause_ok : {A : Type 0} (o : Option A) (why : LineCause) (a : A) → or_cause o why ≡ Ok a → o ≡ Some a
+pub or_cause_ok : {A : Type 0} (o : Option A) (why : LineCause) (a : A) → or_cause o why ≡ Ok a → o ≡ Some a
 or_cause_ok None why a e = cc
 or_cause_ok (Some x) why a e = cc
 
@@ -54,10 +54,10 @@ not_there : {A : Type 0} (o : Option A) → not (is_some o) ≡ true → o ≡ N
 not_there None e = refl
 not_there (Some a) e = cc
 
-ok_is : {A : Type 0} {a b : A} → ◌≡◌ {A = Result A LineCause} (Ok a) (Ok b) → a ≡ b
+pub ok_is : {A : Type 0} {a b : A} → ◌≡◌ {A = Result A LineCause} (Ok a) (Ok b) → a ≡ b
 ok_is e = cc
 
-some_is : {A : Type 0} {a b : A} → Some a ≡ Some b → a ≡ b
+pub some_is : {A : Type 0} {a b : A} → Some a ≡ Some b → a ≡ b
 some_is e = cc
 
 none_some : (found : LineForm) → ◌≡◌ {A = Result (Option LineForm) LineCause} (Ok None) (Ok (Some found)) → ⊥

@@ -50,7 +50,7 @@ small false false true c e f g d is =
     let value : Some (c - 97 + 10) ≡ Some d = rw (e, f, g) at is in let same = some_is value in omega arith
 small false false false c e f g d is = let none : None ≡ Some d = rw (e, f, g) at is in absurd (none_some none)
 
-digit_small : (c d : ℕ) → hex_digit c ≡ Some d → d < 16
+pub digit_small : (c d : ℕ) → hex_digit c ≡ Some d → d < 16
 digit_small c d is = small _ _ _ c refl refl refl d is
 
 four : (w x y z : ℕ) → w < 16 → x < 16 → y < 16 →

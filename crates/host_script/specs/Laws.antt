@@ -1,6 +1,8 @@
 -- Laws over the definitions of this crate (own).
 use Rattle.std.specs.Prelude.{ℕ, ◌≡◌, ◌≤◌, ◌⊎◌, List, length, sum_by}
+use Rattle.std.specs.List.{AllByRecursion}
 use Rattle.host_script.specs.Script.{Accepts, Refuses}
+use Rattle.host_script.specs.Worded.{AreWorded}
 use Rattle.host_script.specs.declared.cause.LineCause.{LineCause}
 use Rattle.host_script.specs.declared.script.Script.{Script}
 
@@ -35,3 +37,9 @@ pub record IsSmall (script : Script) : Type 0 where
 
 abbrev pub AcceptedIsSmall : Type 0
 AcceptedIsSmall = (bytes : List ℕ) (script : Script) → Accepts bytes script → IsSmall script
+
+-- the names of an accepted script's commands are names, their texts are units, and their images are the script's
+abbrev pub AcceptedIsWorded : Type 0
+AcceptedIsWorded =
+    (bytes : List ℕ) (script : Script) → Accepts bytes script →
+    AllByRecursion (AreWorded (length script.images)) script.threads

@@ -14,4 +14,5 @@ pub mod Slot
 pub mod Spelling
 pub mod State
 pub mod Text
+pub mod Worded
 pub mod Words

@@ -1,6 +1,6 @@
 //! Laws over scripts, which the clauses state. The calls do nothing.
-ghost use Rattle.host_script.specs.Laws.{AcceptedIsSmall, IsRefusedOrAccepted, HasOneScript};
-ghost use Rattle.host_script.specs.Laws.{HasOneRefusal};
+ghost use Rattle.host_script.specs.Laws.{AcceptedIsSmall, AcceptedIsWorded, IsRefusedOrAccepted};
+ghost use Rattle.host_script.specs.Laws.{HasOneRefusal, HasOneScript};
 ghost use Rattle.host_script.specs.Spelling.{TextsAreSpelled};
 
 /// Bytes are accepted or refused, and never both.
@@ -21,6 +21,12 @@ pub fn one_refusal()
 /// An accepted script has a thread, and no more threads, commands and images than a script may have.
 pub fn accepted_is_small()
     ensures { AcceptedIsSmall }
+{}
+
+/// Each command of an accepted script has names that are names, texts of UTF-16 units, and images
+/// that the script declares.
+pub fn accepted_is_worded()
+    ensures { AcceptedIsWorded }
 {}
 
 /// A word is read as a text just where it is spelled as one.
