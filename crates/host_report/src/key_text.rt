@@ -1,6 +1,7 @@
 // The texts of keys. What has to be put behind a type is found by going back over the parts before it,
 // so that no memory is taken, however deep a key is.
-ghost use Rattle.std.specs.Prelude.{◌≡◌, ℕ, ◌+◌, ◌-◌, ◌<◌, ◌≤◌, ◌++◌, ◌==◌, if◌then◌else◌, List, [], ◌∷◌, length, take, reverse, codes, decimal};
+ghost use Rattle.std.specs.Prelude.{◌≡◌, ℕ, ◌+◌, ◌-◌, ◌<◌, ◌≤◌, ◌++◌, ◌==◌, if◌then◌else◌, List};
+ghost use Rattle.std.specs.Prelude.{[], ◌∷◌, length, take, reverse, codes, decimal};
 ghost use Rattle.signatures.specs.declared.key.KeyPart.{KeyPart};
 ghost use Rattle.signatures.specs.Keys.{key_arity};
 ghost use Rattle.host_report.specs.Fields.{spaced};

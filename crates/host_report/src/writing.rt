@@ -6,8 +6,9 @@ ghost use Rattle.plug_io.specs.Faults.{HasRisen};
 ghost use Rattle.plug_io.specs.Sink.{HasAppended};
 ghost use Rattle.host_report.specs.Fields.{line_text};
 ghost use Rattle.host_report.specs.Line.{HasStopped, Puts};
-ghost use Rattle.host_report.specs.Report.{command_text, counted_texts, entry_text, print_fields};
-ghost use Rattle.host_report.specs.Report.{report_text, thread_text};
+ghost use Rattle.host_report.specs.Report.{command_text, counted_texts, entry_text, journal_fields};
+ghost use Rattle.host_report.specs.Report.{print_fields, report_text, thread_fields, thread_text};
+ghost use Rattle.host_report.specs.Table.{outcome_fields};
 
 use crate::event::put_event;
 use crate::field::{put_decimal, put_string};
@@ -15,7 +16,7 @@ use crate::line::{Line, flush, put, put_number};
 use crate::outcome::put_outcome;
 use crate::reply::put_reply;
 use cli_words::Units;
-use host_events::{CommandEnd, End, Entry, Journal};
+use host_events::{CommandEnd, End, Entry, Journal, Outcome};
 use plug_io::{Failed, Sink};
 
 /// Writes the report of a run: how the commands of each thread ended, the threads in their order,
@@ -52,9 +53,7 @@ fn put_report<S: Sink>(line: &mut Line, out: &mut S, ends: &[End], entries: &[En
 {
     put(line, out, b"alc 1\n");
     put_threads(line, out, ends);
-    put(line, out, b"journal ");
-    put_number(line, out, entries.len() as u64);
-    put(line, out, b"\n");
+    put_journal_line(line, out, entries.len() as u64);
     put_entries(line, out, entries);
     put(line, out, b"end\n");
 }
@@ -72,10 +71,26 @@ fn put_thread<S: Sink>(line: &mut Line, out: &mut S, thread: u64, commands: &[Co
     ensures { Puts S.written S.faults line.old out.old line.new out.new
         (thread_text thread commands.now) }
 {
+    put_thread_line(line, out, thread);
+    put_commands(line, out, commands);
+}
+
+pub(crate) fn put_thread_line<S: Sink>(line: &mut Line, out: &mut S, thread: u64)
+    ensures { Puts S.written S.faults line.old out.old line.new out.new
+        (line_text (thread_fields thread)) }
+{
     put(line, out, b"thread ");
     put_number(line, out, thread);
     put(line, out, b"\n");
-    put_commands(line, out, commands);
+}
+
+pub(crate) fn put_journal_line<S: Sink>(line: &mut Line, out: &mut S, count: u64)
+    ensures { Puts S.written S.faults line.old out.old line.new out.new
+        (line_text (journal_fields count)) }
+{
+    put(line, out, b"journal ");
+    put_number(line, out, count);
+    put(line, out, b"\n");
 }
 
 fn put_commands<S: Sink>(line: &mut Line, out: &mut S, commands: &[CommandEnd])
@@ -91,7 +106,14 @@ fn put_command<S: Sink>(line: &mut Line, out: &mut S, end: &CommandEnd)
     ensures { Puts S.written S.faults line.old out.old line.new out.new (command_text end.now) }
 {
     put_lines(line, out, end.lines.items());
-    put_outcome(line, out, &end.outcome);
+    put_outcome_line(line, out, &end.outcome);
+}
+
+pub(crate) fn put_outcome_line<S: Sink>(line: &mut Line, out: &mut S, outcome: &Outcome)
+    ensures { Puts S.written S.faults line.old out.old line.new out.new
+        (line_text (outcome_fields outcome.now)) }
+{
+    put_outcome(line, out, outcome);
     put(line, out, b"\n");
 }
 
@@ -104,7 +126,7 @@ fn put_lines<S: Sink>(line: &mut Line, out: &mut S, lines: &[Units])
     }
 }
 
-fn put_printed<S: Sink>(line: &mut Line, out: &mut S, printed: &Units)
+pub(crate) fn put_printed<S: Sink>(line: &mut Line, out: &mut S, printed: &Units)
     ensures { Puts S.written S.faults line.old out.old line.new out.new
         (line_text (print_fields printed.now)) }
 {
@@ -122,7 +144,7 @@ fn put_entries<S: Sink>(line: &mut Line, out: &mut S, entries: &[Entry])
     }
 }
 
-fn put_entry<S: Sink>(line: &mut Line, out: &mut S, number: u64, entry: &Entry)
+pub(crate) fn put_entry<S: Sink>(line: &mut Line, out: &mut S, number: u64, entry: &Entry)
     ensures { Puts S.written S.faults line.old out.old line.new out.new
         (entry_text number entry.now) }
 {

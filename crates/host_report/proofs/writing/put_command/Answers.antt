@@ -8,4 +8,4 @@ use Rattle.host_report.proofs.writing.put_command.Goals as goal
 pub returns : goal.returns
 returns g c =
     let lines = puts_as (ap (flat_map (λ units. line_text (print_fields units))) c.items.ensures) c.put_lines.ensures in
-    puts_then lines (puts_then c.put_outcome.ensures c.put.ensures)
+    puts_then lines c.put_outcome_line.ensures

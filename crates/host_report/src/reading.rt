@@ -1,0 +1,162 @@
+// Reports, read back line by line.
+ghost use Rattle.std.specs.Prelude.{ℕ, ◌≡◌, ◌-◌, ◌^◌, ◌<◌, ◌++◌, List, [], length, codes};
+ghost use Rattle.std.specs.Prelude.{IfOk, IfSome, IfNone, IsErrOf};
+ghost use Rattle.std.specs.Str.{bytes_eq};
+ghost use Rattle.host_report.specs.Fields.{front_text};
+ghost use Rattle.host_report.specs.LineStages.{IsUnfinished, Stage, line_read, stage, stage_after};
+ghost use Rattle.host_report.specs.ReadBack.{IsReadBack, IsRefusedAt, IsUnbroken};
+ghost use Rattle.host_report.specs.Reading.{Reads};
+ghost use Rattle.host_report.specs.Told.{told_fields};
+
+use crate::collected::Collected;
+use crate::draft::Draft;
+use crate::line::{Line, flush};
+use crate::told::{Told, put_told, read_told};
+use crate::unread::Unread;
+use host_events::{End, Journal, Listed};
+use std::alloc::Global;
+use thiserror::Error;
+
+/// What a report reads back as.
+#[derive(Drop)]
+pub struct ReadBack {
+    /// How the commands of each thread ended.
+    pub ends: Listed<End>,
+    pub journal: Journal,
+}
+
+/// Why a text was not read back.
+#[derive(Debug, Drop, Error)]
+pub enum ReportFault {
+    /// No report goes on with this line, counted from 1.
+    #[error("no report at line {line}")]
+    At { line: u32 },
+    /// Memory was wanting.
+    #[error("out of memory")]
+    OutOfMemory,
+}
+
+// Where the one spelling of a line is put, to be compared.
+#[derive(Drop)]
+struct Printer {
+    line: Line,
+    sink: Collected,
+}
+
+/// The ends and the journal of which the text is the report.
+///
+/// `At` tells the first line, counted from 1, with which no report goes on: of a text that stops
+/// before its end, the line that is due. A last piece without LF is a line.
+pub fn read_report(alloc: Global, bytes: &[u8]) -> Result<ReadBack, ReportFault>
+    requires { length bytes.now < 2 ^ 32 - 1 }
+    ensures read { IfOk result (λ read. IsReadBack bytes.now (read.ends, read.journal)) }
+    ensures refused { (line : ℕ) → IsErrOf result (ReportFault.At line) → IsRefusedAt bytes.now line }
+{
+    let Ok(mut printer) = new_printer(alloc) else {
+        return Err(ReportFault::OutOfMemory);
+    };
+    let mut draft = Draft::Head;
+    let mut rest = bytes;
+    let mut line = 1;
+    while let Some((own, after)) = next_line(rest) {
+        draft = match next_draft(alloc, &mut printer, draft, own) {
+            Ok(next) => next,
+            Err(Unread::Differs) => return Err(ReportFault::At { line }),
+            Err(Unread::OutOfMemory) => return Err(ReportFault::OutOfMemory),
+        };
+        rest = after;
+        line += 1;
+    }
+    whole(draft, rest).ok_or(ReportFault::At { line })
+}
+
+fn new_printer(alloc: Global) -> Result<Printer, Unread> {
+    Ok(Printer {
+        line: Line::new(alloc)?,
+        sink: Collected {
+            bytes: Vec::new(alloc),
+            faults: 0,
+        },
+    })
+}
+
+// The first line without its LF, and what stands behind that.
+fn next_line(rest: &[u8]) -> Option<(&[u8], &[u8])>
+    ensures parted { IfSome result (λ x. rest.now ≡ x.0.now ++ codes "\n" ++ x.1.now) }
+    ensures unbroken { IfSome result (λ x. IsUnbroken x.0.now) }
+    ensures last { IfNone result (IsUnbroken rest.now) }
+{
+    let at = rest.iter().position(|byte| *byte == b'\n')?;
+    Some((&rest[..at], &rest[at + 1..]))
+}
+
+// What was read with the next line.
+fn next_draft(
+    alloc: Global,
+    printer: &mut Printer,
+    draft: Draft,
+    line: &[u8],
+) -> Result<Draft, Unread>
+    ensures { Reads (λ next. stage next) result (stage_after (stage draft) line.now) }
+{
+    if let Draft::Head = draft {
+        if line == b"alc 1".as_slice() {
+            return Ok(Draft::Start);
+        }
+        return Err(Unread::Differs);
+    }
+    let told = read_line(alloc, printer, line)?;
+    draft.take(alloc, told)
+}
+
+// What a line tells, which has to be spelled just so.
+fn read_line(alloc: Global, printer: &mut Printer, line: &[u8]) -> Result<Told, Unread>
+    ensures { Reads (λ told. told) result (line_read line.now) }
+{
+    let told = read_told(alloc, line)?;
+    if !spells(printer, &told, line)? {
+        return Err(Unread::Differs);
+    }
+    Ok(told)
+}
+
+// A test of whether the line is what it is spelled as.
+fn spells(printer: &mut Printer, told: &Told, line: &[u8]) -> Result<bool, Unread>
+    ensures same { IfOk result (λ same. same ≡ bytes_eq (front_text (told_fields told.now)) line.now) }
+    ensures failed { IsErrOf result Unread.Differs → ⊥ }
+{
+    printer.line.clear();
+    printer.sink.bytes.clear();
+    put_told(&mut printer.line, &mut printer.sink, told);
+    flush(&mut printer.line, &mut printer.sink);
+    if printer.line.has_failed() {
+        return Err(Unread::OutOfMemory);
+    }
+    Ok(is_line(printer.sink.bytes.as_slice(), line))
+}
+
+// A test of whether the text of a line is this with an LF after it.
+fn is_line(text: &[u8], line: &[u8]) -> bool
+    ensures { (front : List ℕ) → text.now ≡ front ++ codes "\n" → result ≡ bytes_eq front line.now }
+{
+    let front = &text[..text.len().saturating_sub(1)];
+    front == line
+}
+
+// All that was read, where it is a whole report.
+fn whole(draft: Draft, rest: &[u8]) -> Option<ReadBack>
+    ensures some { IfSome result (λ read. stage draft ≡ Stage.Whole read.ends read.journal) }
+    ensures all { IfSome result (λ read. rest.now ≡ []) }
+    ensures none { IfNone result (IsUnfinished (stage draft) rest.now) }
+{
+    let Draft::Whole(ends, entries) = draft else {
+        return None;
+    };
+    if !rest.is_empty() {
+        return None;
+    }
+    Some(ReadBack {
+        ends: Listed::of(ends),
+        journal: Listed::of(entries),
+    })
+}

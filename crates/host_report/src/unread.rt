@@ -1,0 +1,30 @@
+// Why a text was not read.
+ghost use Rattle.std.specs.Prelude.{◌≡◌};
+ghost use Rattle.host_report.specs.declared.unread.Unread.TheVariants.{OutOfMemory};
+
+use std::alloc::{AllocError, AllocFailed};
+
+/// Why nothing was read.
+#[derive(Debug, Drop)]
+pub(crate) enum Unread {
+    /// The text is none of the kind.
+    Differs,
+    /// Memory was wanting.
+    OutOfMemory,
+}
+
+impl From<AllocError> for Unread {
+    ghost from_gives = { λ _ e. e ≡ OutOfMemory };
+
+    fn from(_error: AllocError) -> Unread {
+        Unread::OutOfMemory
+    }
+}
+
+impl<T: Drop> From<AllocFailed<T>> for Unread {
+    ghost from_gives = { λ _ e. e ≡ OutOfMemory };
+
+    fn from(_error: AllocFailed<T>) -> Unread {
+        Unread::OutOfMemory
+    }
+}
