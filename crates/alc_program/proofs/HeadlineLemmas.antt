@@ -11,6 +11,7 @@ use Rattle.alc_program.specs.Good.{RunsScript}
 use Rattle.alc_program.specs.Headline.{During, CanBeDone, HasFailed, IsAnswerTo, IsAnswerToInspect, IsAnswerToSteps, IsAnswerToWords, IsReport, IsUntouched}
 use Rattle.alc_program.specs.Load.{HoldsScript}
 use Rattle.alc_program.proofs.LoadLemmas.{not_refused_file}
+use Rattle.alc_program.proofs.PrintableLemmas.{good_is_printable_each}
 use Rattle.host_report.specs.Report.{report_text}
 use Rattle.alc_program.specs.Words.{Request, Asks}
 use Rattle.alc_program.specs.Words.Request.{steps, inspect}
@@ -80,5 +81,8 @@ reported held file schedule script journal ends seen same holds run = record {
   ends = ends;
   scripted = holds;
   run = run;
-  spelled = ap (λ es. report_text es journal) same;
+  told = (
+    good_is_printable_each holds.bytes script journal ends holds.accepted run.good,
+    ap (λ es. report_text es journal) same,
+  );
 }

@@ -4,7 +4,9 @@ pub mod HeadlineLemmas
 pub mod InspectionLemmas
 pub mod LoadLemmas
 pub mod OneRun
+pub mod PrintableLemmas
 pub mod ReadingLemmas
 pub mod RunLemmas
+pub mod TellingLemmas
 pub mod UnbuiltLemmas
 pub mod WordsLemmas

@@ -29,7 +29,7 @@ use Rattle.alc_program.proofs.DriveLemmas.{all-events}
 use Rattle.alc_program.proofs.EventLemmas.{events_are_commands, next_fits}
 
 -- the commands of a thread, counted from 1
-abbrev lines_of : Script → ℕ → List CommandLine
+abbrev pub lines_of : Script → ℕ → List CommandLine
 lines_of script t = option_map_or (λ lines. lines) (slice_get script.threads (t - 1)) []
 
 -- the event that is next after a thread's events
@@ -39,7 +39,7 @@ next_of script t own = next_event (commands_of (lines_of script t)) own
 no_assemblies : ℕ → Option CodeOf
 no_assemblies a = None
 
-some_within : {X : Type 0} (xs : List X) (i : ℕ) → i < length xs → (x : X) × (slice_get xs i ≡ Some x)
+pub some_within : {X : Type 0} (xs : List X) (i : ℕ) → i < length xs → (x : X) × (slice_get xs i ≡ Some x)
 some_within [] i within = absurd (omega arith)
 some_within (x ∷ xs) zero within = (x, refl)
 some_within (x ∷ xs) (suc i) within = some_within xs i (omega arith)
@@ -87,7 +87,7 @@ module _ (in_order : CommandsInOrder) (script : Script) (journal : List Entry) (
       )
 
   -- the event of an entry is the next one of its thread
-  followed : (before : List Entry) (entry : Entry) (after : List Entry) → journal ≡ before ++ entry ∷ after →
+  pub followed : (before : List Entry) (entry : Entry) (after : List Entry) → journal ≡ before ++ entry ∷ after →
       next_of script entry.thread (own_entries before entry.thread) ≡ Some entry.event
   followed before entry after parts =
       let within = good.threads before entry after parts in

@@ -13,7 +13,7 @@ use Rattle.alc_program.specs.Inspect.{ReadsAs}
 use Rattle.alc_program.specs.Inspection.{inspection_text}
 use Rattle.host_report.specs.Line.{HasStopped}
 use Rattle.alc_program.specs.Load.{HoldsScript, RefusesFile}
-use Rattle.host_report.specs.Report.{report_text}
+use Rattle.host_report.specs.ReadBack.{IsReadBack}
 use Rattle.alc_program.specs.Words.{Request, Asks}
 use Rattle.alc_program.specs.Words.Request.{steps, inspect}
 
@@ -44,14 +44,15 @@ WritesPart out text = HasStopped out.before out.after text
 abbrev pub WritesNothing : During (List ℕ) → Type 0
 WritesNothing out = out.after ≡ out.before
 
--- The text is the report of a run of the file's script, in the turns of the schedule.
+-- The text is the report of a run of the file's script, in the turns of the schedule, and reads back as what the
+-- run left.
 pub record IsReport (held : Option (List (List ℕ × List ℕ))) (file schedule text : List ℕ) : Type 0 where
   pub script : Script
   pub journal : List Entry
   pub ends : List (List CommandEnd)
   pub scripted : HoldsScript held file script
   pub run : RunsScript script schedule journal ends
-  pub spelled : text ≡ report_text ends journal
+  pub told : IsReadBack text (ends, journal)
 
 -- The text is the inspection of what the file reads as: it may be absent, too long or no image.
 pub record IsInspection (held : Option (List (List ℕ × List ℕ))) (file text : List ℕ) : Type 0 where

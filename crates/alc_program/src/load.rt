@@ -6,12 +6,9 @@ ghost use Rattle.alc_program.specs.Unbuilt.{IsLeast, unbuilt_lines};
 
 use crate::status::Status;
 use crate::unbuilt::first_unbuilt;
-use host_script::{LineCause, Script, ScriptFault, read_script};
+use host_script::{LineCause, MAX_SCRIPT, Script, ScriptFault, read_script};
 use plug_io::{Files, Found};
 use std::alloc::Global;
-
-/// The most bytes of a script.
-const SCRIPT_LIMIT: usize = 1_048_576;
 
 /// The script that the file holds, or the status that tells why there is none.
 pub fn load<F: Files>(alloc: Global, files: &mut F, file: &str) -> Result<Script, Status>
@@ -22,7 +19,7 @@ pub fn load<F: Files>(alloc: Global, files: &mut F, file: &str) -> Result<Script
     ensures held { F.held files.new ≡ F.held files.old }
     ensures faults { F.faults files.old ≤ F.faults files.new }
 {
-    match files.read(alloc, file, SCRIPT_LIMIT) {
+    match files.read(alloc, file, MAX_SCRIPT as usize) {
         Found::Bytes(bytes) => load_bytes(alloc, &bytes),
         Found::Absent => Err(refusal(LineCause::Absent)),
         Found::TooLong => Err(refusal(LineCause::TooLong)),

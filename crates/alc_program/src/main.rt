@@ -14,7 +14,7 @@ mod tests;
 mod unbuilt;
 mod words;
 
-pub use laws::{good_is_proper, one_run};
+pub use laws::{good_is_printable, good_is_proper, one_run};
 use plug_io::{DirFiles, OpenGate, StdSink};
 pub use program::{alc, alc_alone};
 pub use status::Status;

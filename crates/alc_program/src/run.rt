@@ -1,5 +1,6 @@
 //! The run of a script over the host, its threads in turn.
-ghost use Rattle.std.specs.Prelude.{ℕ, ◌≡◌, ◌<◌, ◌≤◌, ◌^◌, List, [], IfOk, IsSome, All, if◌then◌else◌, length, map, sum_by};
+ghost use Rattle.std.specs.Prelude.{ℕ, ◌≡◌, ◌<◌, ◌≤◌, ◌^◌, List, [], IfOk, IsSome, All};
+ghost use Rattle.std.specs.Prelude.{if◌then◌else◌, length, map, sum_by};
 ghost use Rattle.host_core.specs.Allowed.{makes_context_by, makes_handle_by, sets_rule_by};
 ghost use Rattle.host_core.specs.Bounds.{bounds_of};
 ghost use Rattle.host_script.specs.declared.command.CommandLine.{CommandLine};
@@ -113,8 +114,10 @@ fn flows_for(
     threads: Vec<Listed<CommandLine>>,
 ) -> Result<Vec<ThreadFlow>, AllocError>
     requires few { sum_by length threads.items ≤ 1024 }
-    requires built { All (λ lines. All (λ command. IsSome (event_of command)) (commands_of lines)) threads.items }
-    ensures { IfOk result (λ flows. flows.items ≡ map (λ lines. fresh (commands_of lines)) threads.items) }
+    requires built { All
+        (λ lines. All (λ command. IsSome (event_of command)) (commands_of lines)) threads.items }
+    ensures { IfOk result
+        (λ flows. flows.items ≡ map (λ lines. fresh (commands_of lines)) threads.items) }
 {
     let mut flows = Vec::with_capacity(alloc, threads.len())?;
     for lines in threads {

@@ -55,7 +55,8 @@ fn runs_scripts(rt: HostRuntime) -> Result<(), Fail> {
         ),
         (
             "steps F 012",
-            "thread\nnew P fixed\nunload P\nthread\nresolve \"a b\" share Q\nthread\nresolving Q x none\nweak w Q",
+            "thread\nnew P fixed\nunload P\nthread\nresolve \"a b\" share Q\n\
+             thread\nresolving Q x none\nweak w Q",
             "alc 1\nthread 1\nMade 1\nFixed 1\nthread 2\nSet 0\nthread 3\nNoContext\nNoContext\n\
              journal 5\n1 1 new P fixed -> Made 1\n2 2 resolve \"a b\" share Q -> Set 0\n\
              3 1 unload P -> Fixed 1\n4 3 resolving Q \"x\" none -> NoContext\n\
