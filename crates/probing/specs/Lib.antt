@@ -1,0 +1,2 @@
+pub mod AppList
+pub mod Rules
