@@ -126,7 +126,7 @@ fn of_number(name: &str, number: u32) -> Result<Reply, Unread>
 }
 
 // The numbers up to the line's end.
-#[tactic(auto, using(crate::proofs::ReplyReadingLemmas::numbers_next, crate::proofs::ReplyReadingLemmas::numbers_missed, crate::proofs::ReplyReadingLemmas::numbers_end, crate::proofs::ReplyReadingLemmas::numbers_more))]
+#[tactic(auto, using(crate::proofs::ReplyReadingLemmas::numbers_missed))]
 fn numbers(alloc: Global, text: &[u8]) -> Result<Vec<u32>, Unread>
     ensures { Reads (λ numbers. numbers.items) result (numbers_read text.now) }
 {
