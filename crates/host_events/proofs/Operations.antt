@@ -1,19 +1,16 @@
 -- Operations that are open.
-use Rattle.std.proofs.Common.{◌≡◌, ℕ, Bool, true, false, not, ◌||◌, cond, eqb, List, [], ◌∷◌, ◌++◌, Option, Some, None, map, refl, sym, ap, subst, ◌∙◌, inl, inr, append_assoc}
+use Rattle.std.proofs.Common.{◌≡◌, ℕ, Bool, true, false, not, ◌||◌, cond, eqb, List, [], ◌∷◌, ◌++◌, None, map, refl, sym, ap, subst, ◌∙◌, inl, inr, append_assoc}
 use Rattle.std.specs.List.{cons_option, filter, filter_map, list_all, list_any}
-use Rattle.std.proofs.lemmas.Bool.{and_parts, or_cases}
+use Rattle.std.proofs.lemmas.Bool.{and_parts, or_cases, or_left, or_right}
 use Rattle.host_events.specs.declared.event.Event.{Event}
-use Rattle.host_events.specs.declared.event.Event.TheVariants as events
 use Rattle.host_events.specs.declared.reply.Reply.{Reply}
 use Rattle.host_events.specs.declared.journal.Entry.{Entry}
-use Rattle.host_events.specs.Contexts.{named}
 use Rattle.host_events.specs.Files.{Files}
-use Rattle.host_events.specs.Handles.{weakly}
 use Rattle.host_events.specs.Journal.{HasNoOpen, IsLegal, own_entries}
 use Rattle.host_events.specs.Laws.{OwnEntriesTellOpen}
-use Rattle.host_events.specs.Operations.{begun_operation, ends, is_command, open_in, open_operations}
+use Rattle.host_events.specs.Operations.{begun_operation, ends, is_command}
 use Rattle.host_events.specs.Reply.{IsReply}
-use Rattle.host_events.proofs.Cases.{alive-each, new-each, rule-each, unload-each, weak-each}
+use Rattle.host_events.proofs.Quiet.{command-quiet}
 
 -- what passes one test passes another, so where nothing passes the other, nothing passes the one
 filter-none : {X : Type 0} (p q : X → Bool) (xs : List X) → ((x : X) → q x ≡ true → p x ≡ true) →
@@ -28,7 +25,7 @@ filter-none p q (x ∷ xs) within none = at (p x) (q x) (within x) (filter-none 
     at false false passes later h = later h
 
 -- what a thread began stands in its own entries
-begun_own : (journal : List Entry) (thread : ℕ) →
+pub begun_own : (journal : List Entry) (thread : ℕ) →
     filter_map (λ step. begun_operation step.1) (own_entries journal thread)
     ≡ filter_map (λ entry. cond (eqb entry.thread thread) (begun_operation entry.reply) None) journal
 begun_own [] thread = refl
@@ -49,15 +46,8 @@ begun_own (e ∷ es) thread = at (eqb e.thread thread) (begun_own es thread)
     at true later = ap (λ ks. cons_option (begun_operation e.reply) ks) later
     at false later = later
 
-or-left : (a b : Bool) → a ≡ true → (a || b) ≡ true
-or-left a b h = cc
-
-or-right : (a b : Bool) → b ≡ true → (a || b) ≡ true
-or-right true b h = refl
-or-right false b h = h
-
 -- what a thread ended was ended
-ended_own : (k : ℕ) (journal : List Entry) (thread : ℕ) → list_any (λ step. ends k step.0) (own_entries journal thread) ≡ true →
+pub ended_own : (k : ℕ) (journal : List Entry) (thread : ℕ) → list_any (λ step. ends k step.0) (own_entries journal thread) ≡ true →
     list_any (λ entry. ends k entry.event) journal ≡ true
 ended_own k [] thread h = cc
 ended_own k (e ∷ es) thread h = at (eqb e.thread thread) (ended_own k es thread) h
@@ -74,10 +64,10 @@ ended_own k (e ∷ es) thread h = at (eqb e.thread thread) (ended_own k es threa
     at : (b : Bool) → (list_any (λ step. ends k step.0) (map own mine) ≡ true → theirs ≡ true) →
         list_any (λ step. ends k step.0) (map own (cond b (e ∷ mine) mine)) ≡ true → (ends k e.event || theirs) ≡ true
     at true later ended = elim (or_cases (ends k e.event) (list_any (λ step. ends k step.0) (map own mine)) ended) [
-      | inl here ↦ or-left (ends k e.event) theirs here
-      | inr there ↦ or-right (ends k e.event) theirs (later there)
+      | inl here ↦ or_left (ends k e.event) theirs here
+      | inr there ↦ or_right (ends k e.event) theirs (later there)
     ]
-    at false later ended = or-right (ends k e.event) theirs (later ended)
+    at false later ended = or_right (ends k e.event) theirs (later ended)
 
 not-true : (a b : Bool) → (b ≡ true → a ≡ true) → not a ≡ true → not b ≡ true
 not-true true b h none = cc
@@ -96,28 +86,7 @@ own_entries_tell_open_each journal thread none =
 -- what is a command by itself begins no operation
 pub begun-command : (files : Files) (journal : List Entry) (event : Event) (reply : Reply) →
     is_command event ≡ true → IsReply files journal event reply → begun_operation reply ≡ None
-begun-command files journal (events.New name kind) reply command is =
-    ap begun_operation is ∙ new-each (λ r. begun_operation r ≡ None) journal (named journal name) refl (λ c. refl)
-begun-command files journal (events.Rule place name answer) reply command is =
-    ap begun_operation is ∙ rule-each (λ r. begun_operation r ≡ None) journal place refl (λ c. refl) (λ c. refl)
-begun-command files journal (events.Enter name) reply command is = absurd is
-begun-command files journal (events.EnterHandle handle) reply command is = absurd is
-begun-command files journal (events.Lookup context name version) reply command is = absurd is
-begun-command files journal (events.Ask step context name) reply command is = absurd is
-begun-command files journal (events.Publish context name candidate) reply command is = absurd is
-begun-command files journal (events.Place user key) reply command is = absurd is
-begun-command files journal (events.LoadStatic key field kind) reply command is = absurd is
-begun-command files journal (events.StoreStatic key field value) reply command is = absurd is
-begun-command files journal (events.Hold handle assembly method) reply command is = absurd is
-begun-command files journal (events.DropHandle handle) reply command is = absurd is
-begun-command files journal (events.Weak handle name) reply command is =
-    ap begun_operation is ∙ weak-each (λ r. begun_operation r ≡ None) (weakly journal handle) (named journal name) refl refl (λ c. refl)
-begun-command files journal (events.Alive handle) reply command is =
-    ap begun_operation is ∙ alive-each (λ r. begun_operation r ≡ None) journal (weakly journal handle) refl (λ c. refl) (λ c. refl)
-begun-command files journal (events.Unload name) reply command is =
-    ap begun_operation is ∙ unload-each (λ r. begun_operation r ≡ None) journal (named journal name) refl (λ c. refl) (λ c. refl) (λ c. refl)
-begun-command files journal events.Collect reply command is = ap begun_operation is.2
-begun-command files journal (events.Leave operation) reply command is = absurd is
+begun-command files journal event reply command is = (command-quiet files journal event reply command is).begun
 
 -- what a thread began by commands alone: nothing
 begun-commands : (files : Files) (before after : List Entry) (thread : ℕ) → IsLegal files (before ++ after) →

@@ -3,7 +3,7 @@ use Rattle.std.proofs.Common.{◌≡◌, ℕ, ◌+◌, Bool, true, false, not, �
 use Rattle.std.specs.List.{cons_option, filter, filter_map, list_any}
 use Rattle.std.specs.Option.{is_some}
 use Rattle.std.proofs.lemmas.List.{length-append, map-append}
-use Rattle.std.proofs.lemmas.List.Elements.{filter-append, filter_map-append}
+use Rattle.std.proofs.lemmas.List.Elements.{filter-append}
 use Rattle.std.proofs.lemmas.List.Folds.{list_any-append}
 use Rattle.host_events.specs.declared.event.Event.{Event}
 use Rattle.host_events.specs.declared.reply.Reply.{Reply}
@@ -12,14 +12,11 @@ use Rattle.host_events.specs.Contexts.{made_context, freed_contexts, makes, make
 use Rattle.host_events.specs.Files.{Files}
 use Rattle.host_events.specs.Journal.{IsLegal, Fits, IsProper, own_entries}
 use Rattle.host_events.specs.Reply.{IsReply}
+use Rattle.host_events.proofs.Parts.{filter_map-push}
 
 or-false : (b : Bool) → (b || false) ≡ b
 or-false true = refl
 or-false false = refl
-
-length-cons_option : {X : Type 0} (o : Option X) → length (cons_option o []) ≡ cond (is_some o) 1 0
-length-cons_option None = refl
-length-cons_option (Some x) = refl
 
 map-cond : {X Y : Type 0} (f : X → Y) (x : X) (b : Bool) → map f (cond b (x ∷ []) []) ≡ cond b (f x ∷ []) []
 map-cond f x true = refl
@@ -30,12 +27,24 @@ pub list_any-push : {X : Type 0} (p : X → Bool) (xs : List X) (x : X) →
     list_any p (xs ++ x ∷ []) ≡ (list_any p xs || p x)
 list_any-push p xs x = list_any-append p xs (x ∷ []) ∙ ap (λ b. list_any p xs || b) (or-false (p x))
 
+-- how many numbers the replies give
+abbrev pub count : (Reply → Option ℕ) → List Entry → ℕ
+count number journal = length (filter_map (λ entry. number entry.reply) journal)
+
+counted : (o : Option ℕ) → length (cons_option o []) ≡ cond (is_some o) 1 0
+counted None = refl
+counted (Some n) = refl
+
+pub count-push : (number : Reply → Option ℕ) (journal : List Entry) (entry : Entry) →
+    count number (journal ++ entry ∷ []) ≡ count number journal + cond (is_some (number entry.reply)) 1 0
+count-push number journal entry =
+    ap length (filter_map-push (λ e. number e.reply) journal entry)
+    ∙ length-append (filter_map (λ e. number e.reply) journal) (cons_option (number entry.reply) [])
+    ∙ ap (λ n. count number journal + n) (counted (number entry.reply))
+
 pub made_count-push : (journal : List Entry) (entry : Entry) →
     made_count (journal ++ entry ∷ []) ≡ made_count journal + cond (is_some (made_context entry.reply)) 1 0
-made_count-push journal entry =
-    ap length (filter_map-append (λ e. made_context e.reply) journal (entry ∷ []))
-    ∙ length-append (filter_map (λ e. made_context e.reply) journal) (filter_map (λ e. made_context e.reply) (entry ∷ []))
-    ∙ ap (λ n. made_count journal + n) (length-cons_option (made_context entry.reply))
+made_count-push journal entry = count-push made_context journal entry
 
 pub is_made-push : (journal : List Entry) (entry : Entry) (c : ℕ) →
     is_made (journal ++ entry ∷ []) c ≡ (is_made journal c || makes c entry.reply)
@@ -105,20 +114,15 @@ IsProper-push files journal entry proper fits reply = record {
   ];
 }
 
--- a list that is parted at an element, after one more
-pub parts-push : {X : Type 0} (xs before after : List X) (x y : X) → xs ≡ before ++ y ∷ after →
-    xs ++ x ∷ [] ≡ before ++ y ∷ (after ++ x ∷ [])
-parts-push xs before after x y e = ap (λ v. v ++ x ∷ []) e ∙ append_assoc before (y ∷ after) (x ∷ [])
+-- what holds of a journal held of what it began with
+pub IsLegal-prefix : (files : Files) (journal later : List Entry) → IsLegal files (journal ++ later) → IsLegal files journal
+IsLegal-prefix files journal later legal before at after e =
+    legal before at (after ++ later) (ap (λ v. v ++ later) e ∙ append_assoc before (at ∷ after) later)
 
--- what holds after one more entry held before it
-pub IsLegal-before : (files : Files) (journal : List Entry) (entry : Entry) → IsLegal files (journal ++ entry ∷ []) → IsLegal files journal
-IsLegal-before files journal entry legal before at after e =
-    legal before at (after ++ entry ∷ []) (parts-push journal before after entry at e)
-
-pub IsProper-before : (files : Files) (journal : List Entry) (entry : Entry) → IsProper files (journal ++ entry ∷ []) → IsProper files journal
-IsProper-before files journal entry proper = record {
-  legal = IsLegal-before files journal entry proper.legal;
-  fits = λ before at after e. proper.fits before at (after ++ entry ∷ []) (parts-push journal before after entry at e);
+pub IsProper-prefix : (files : Files) (journal later : List Entry) → IsProper files (journal ++ later) → IsProper files journal
+IsProper-prefix files journal later proper = record {
+  legal = IsLegal-prefix files journal later proper.legal;
+  fits = λ before at after e. proper.fits before at (after ++ later) (ap (λ v. v ++ later) e ∙ append_assoc before (at ∷ after) later);
 }
 
 nil_parts : {X : Type 0} (before after : List X) (y : X) → [] ≡ before ++ y ∷ after → ⊥

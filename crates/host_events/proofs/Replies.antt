@@ -2,7 +2,6 @@
 use Rattle.std.proofs.Common.{◌≡◌, ℕ, List, [], ◌∷◌, ◌++◌, map, refl, sym, ap, subst, ◌∙◌, append_assoc}
 use Rattle.host_events.specs.declared.event.Event.{Event}
 use Rattle.host_events.specs.declared.event.Event.TheVariants as events
-use Rattle.host_events.specs.declared.reply.Reply.{Reply}
 use Rattle.host_events.specs.declared.reply.Reply.TheVariants as replies
 use Rattle.host_events.specs.declared.journal.Entry.{Entry}
 use Rattle.host_events.specs.Files.{Files}
@@ -16,11 +15,11 @@ use Rattle.host_events.proofs.Rising.{same_rising}
 pub one_reply_each : HasOneReply
 one_reply_each files journal (events.New name kind) first second is_first is_second = is_first ∙ sym is_second
 one_reply_each files journal (events.Rule place name answer) first second is_first is_second = is_first ∙ sym is_second
-one_reply_each files journal (events.Enter name) first second is_first is_second = absurd is_first
+one_reply_each files journal (events.Enter name) first second is_first is_second = is_first ∙ sym is_second
 one_reply_each files journal (events.EnterHandle handle) first second is_first is_second = absurd is_first
-one_reply_each files journal (events.Lookup context name version) first second is_first is_second = absurd is_first
-one_reply_each files journal (events.Ask step context name) first second is_first is_second = absurd is_first
-one_reply_each files journal (events.Publish context name candidate) first second is_first is_second = absurd is_first
+one_reply_each files journal (events.Lookup context name version) first second is_first is_second = is_first ∙ sym is_second
+one_reply_each files journal (events.Ask step context name) first second is_first is_second = is_first ∙ sym is_second
+one_reply_each files journal (events.Publish context name candidate) first second is_first is_second = is_first ∙ sym is_second
 one_reply_each files journal (events.Place user key) first second is_first is_second = absurd is_first
 one_reply_each files journal (events.LoadStatic key field kind) first second is_first is_second = absurd is_first
 one_reply_each files journal (events.StoreStatic key field value) first second is_first is_second = absurd is_first
@@ -37,7 +36,7 @@ one_reply_each files journal events.Collect first second is_first is_second =
     (same_rising is_first.0 is_second.0 one.rising other.rising
     (λ c has. (other.each c).1 ((one.each c).0 has)) (λ c has. (one.each c).1 ((other.each c).0 has)))
     ∙ sym is_second.2
-one_reply_each files journal (events.Leave operation) first second is_first is_second = absurd is_first
+one_reply_each files journal (events.Leave operation) first second is_first is_second = is_first ∙ sym is_second
 
 -- who asked for what
 abbrev pub asked_of : Entry → ℕ × Event

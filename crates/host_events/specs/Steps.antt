@@ -1,10 +1,12 @@
 -- The steps of a thread: its events, each with the reply and with where the code comes from that the reply
 -- names (own).
-use Rattle.std.specs.Prelude.{ℕ, ◌==◌, if◌then◌else◌, List, [], ◌∷◌, ◌++◌, Option, map}
+use Rattle.std.specs.Prelude.{ℕ, ◌≡◌, ◌==◌, if◌then◌else◌, List, [], ◌∷◌, ◌++◌, Option, Some, map}
+use Rattle.std.specs.List.{AllByRecursion}
 use Rattle.host_events.specs.declared.event.Event.{Event}
 use Rattle.host_events.specs.declared.reply.Reply.{Reply}
 use Rattle.host_events.specs.declared.journal.Entry.{Entry}
 use Rattle.host_events.specs.declared.order.CodeOf.{CodeOf}
+use Rattle.host_events.specs.Assemblies.{assembly_in}
 
 abbrev pub entry_of : ℕ → Event → Reply → Entry
 entry_of thread event reply = record { thread = thread; event = event; reply = reply }
@@ -37,3 +39,8 @@ steps_after code_of thread before (entry ∷ rest) =
 -- the steps of a thread in a journal
 abbrev pub own_steps : (List Entry → Entry → Option CodeOf) → List Entry → ℕ → List Step
 own_steps code_of journal thread = steps_after code_of thread [] journal
+
+-- the codes of the steps are those of the assemblies that their replies name
+abbrev pub AgreeWith : (ℕ → Option CodeOf) → List Step → Type 0
+AgreeWith assemblies steps =
+    AllByRecursion (λ step. (a : ℕ) → assembly_in step.reply ≡ Some a → step.code ≡ assemblies a) steps

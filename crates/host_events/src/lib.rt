@@ -20,7 +20,10 @@ pub use event::{AskStep, Candidate, ContextKind, Datum, Event, RuleAnswer, RuleA
 pub use flow::{Due, Flow, Next};
 pub use journal::{Entry, Journal};
 pub use kept::Kept;
-pub use laws::{one_reply, own_entries_tell_open};
+pub use laws::{
+    assemblies_stay, named_are_made, one_reply, own_entries_tell_open, own_entries_tell_replies,
+    own_entries_tell_within,
+};
 pub use order::{Answer, Code, CodeOf, HasEvent, HasReply, Order, Room};
 pub use outcome::{CommandEnd, End, Lines, Outcome, VerifyRule};
 pub use reply::Reply;

@@ -1,5 +1,7 @@
 use crate::{
-    CommandEnd, End, Entry, Event, Journal, Lines, Listed, Numbers, Outcome, Reply, Text, one_reply,
+    CommandEnd, End, Entry, Event, Journal, Lines, Listed, Numbers, Outcome, Reply, Text,
+    assemblies_stay, named_are_made, one_reply, own_entries_tell_open, own_entries_tell_replies,
+    own_entries_tell_within,
 };
 use cli_words::Units;
 use signatures::Prim;
@@ -17,7 +19,13 @@ fn lists_take_what_they_have_room_for(rt: HostRuntime) -> Result<(), Fail> {
     text.push_reserved(0xd800);
     assert_eq!(rt; text.units(), [0xd800].as_slice());
     assert!(rt; Text::new(rt.alloc(), 0)?.units().is_empty());
+
     one_reply();
+    own_entries_tell_open();
+    own_entries_tell_within();
+    own_entries_tell_replies();
+    named_are_made();
+    assemblies_stay();
 
     // The types of signatures can be named in a crate above theirs.
     assert!(rt; Prim::Int32 != Prim::Int64);

@@ -1,2 +1,1 @@
-pub mod AppList
 pub mod Rules

@@ -2,8 +2,8 @@
 ghost use Rattle.std.specs.Prelude.{◌≡◌};
 ghost use Rattle.std.specs.List.{find};
 ghost use Rattle.std.specs.Option.{option_copied};
-ghost use Rattle.probing.specs.AppList.{IsNumbered, first_image, is_of_name};
-ghost use Rattle.probing.specs.AppList.{version_at, version_of};
+ghost use Rattle.host_events.specs.Files.{IsNumbered, first_image, is_of_name};
+ghost use Rattle.host_events.specs.Files.{version_at, version_of};
 
 use assembly_name::{SimpleName, Version, same_name};
 use std::marker::Model;
@@ -19,7 +19,7 @@ pub struct AppList {
 
 impl Model for AppList {
     ghost use Rattle.host_events.specs.Files.{Files};
-    ghost use Rattle.probing.specs.AppList.{IsNumbered};
+    ghost use Rattle.host_events.specs.Files.{IsNumbered};
 
     ghost Value = { Files };
 
