@@ -1,0 +1,4 @@
+pub mod ComeLemmas
+pub mod FlowLemmas
+pub mod OrderLemmas
+pub mod TurnLemmas
