@@ -31,6 +31,7 @@ use Rattle.host_threads.specs.Drive.{CanDrive, Suits}
 use Rattle.command_flow.specs.declared.code.NoCode.{NoCode}
 use Rattle.command_flow.specs.Events.{events_of}
 use Rattle.command_flow.specs.Flow.{CanCome, IsNext, no_code}
+use Rattle.command_flow.proofs.StepLemmas.{is_command_at}
 use Rattle.command_flow.specs.Orders.{most_contexts, numbers_of, order_for}
 use Rattle.alc_program.specs.Good.{commands_of}
 use Rattle.alc_program.specs.Shares.{share_for}
@@ -140,6 +141,7 @@ module _ (fixed : Fixed) (thread : ℕ) (lines : List CommandLine) (trace : List
   pub accepted : IsAccepted fixed journal thread order
   accepted = record {
     fits = next_fits journal thread (commands_of lines) (length trace) order.event none next.next;
+    command = is_command_at (commands_of lines) (length trace) order.event next.next;
     same = ap (λ o. o.again) next.brings;
     events = omega (
       arith,

@@ -12,11 +12,12 @@ use Rattle.host_events.specs.declared.event.Event.{Event}
 use Rattle.host_events.specs.declared.journal.Entry.{Entry}
 use Rattle.host_events.specs.declared.outcome.CommandEnd.{CommandEnd}
 use Rattle.host_events.specs.declared.reply.Reply.{Reply}
-use Rattle.host_events.specs.Files.{no_files}
 use Rattle.host_events.specs.Journal.{own_entries}
 use Rattle.host_report.specs.Fields.{AreFields}
 use Rattle.host_report.specs.Printable.{IsPrintable, IsPrintableCommand, IsPrintableEntry, IsPrintableEvent}
 use Rattle.host_report.specs.Table.{answer_fields, kind_fields}
+use Rattle.host_events.specs.Files.{no_files}
+use Rattle.host_events.specs.Operations.{is_command}
 use Rattle.host_script.specs.declared.command.Command.{Command}
 use Rattle.host_script.specs.declared.command.Command.TheVariants as commands
 use Rattle.host_script.specs.declared.command.CommandLine.{CommandLine}
@@ -37,6 +38,7 @@ use Rattle.alc_program.specs.Shares.{share_for}
 use Rattle.alc_program.proofs.EventLemmas.{events-le}
 use Rattle.alc_program.proofs.OneRun.{followed, lines_of, some_within}
 use Rattle.alc_program.proofs.RunLemmas.{can_sum, commands-length, share_at}
+use Rattle.command_flow.proofs.StepLemmas.{is_command_at}
 use Rattle.alc_program.proofs.TellingLemmas.{AreTold, Tells, replies_are_told}
 
 of_some : {X : Type 0} {x y : X} → Some x ≡ Some y → x ≡ y
@@ -193,7 +195,12 @@ module _ (script : Script) (journal : List Entry) (ends : List (List CommandEnd)
       omega (arith, sum.events, entries-le (map share_for script.threads) journal few_in_thread)
 
   told : AreTold journal
-  told = replies_are_told no_files journal good.legal few
+  told = replies_are_told no_files journal good.legal few (by_parts (λ (entry : Entry). is_command entry.event ≡ true) journal command)
+    where
+      command : (before : List Entry) (entry : Entry) (after : List Entry) → journal ≡ before ++ entry ∷ after → is_command entry.event ≡ true
+      command before entry after parts =
+          is_command_at (commands_of (lines_of script entry.thread)) (length (own_entries before entry.thread)) entry.event
+          (followed in_order_each script journal ends good before entry after parts)
 
   entry_prints : (before : List Entry) (entry : Entry) (after : List Entry) → journal ≡ before ++ entry ∷ after → IsPrintableEntry entry
   entry_prints before entry after parts =

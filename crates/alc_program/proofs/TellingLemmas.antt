@@ -16,6 +16,7 @@ use Rattle.host_events.specs.Contexts.{is_collectible, is_live, is_unloaded, mad
 use Rattle.host_events.specs.Files.{Files}
 use Rattle.host_events.specs.Handles.{weak_context, weak_name, weak_of, weakly}
 use Rattle.host_events.specs.Journal.{IsLegal}
+use Rattle.host_events.specs.Operations.{is_command}
 use Rattle.host_events.specs.Reply.{IsReply, ListsUnkept, reply_to_alive, reply_to_new, reply_to_rule, reply_to_rule_in, reply_to_unload, reply_to_weak}
 use Rattle.host_events.proofs.Numbers.{number_of_live}
 use Rattle.host_report.specs.Printable.{IsPrintableReply, ends_command}
@@ -29,6 +30,10 @@ Tells reply = IsPrintableReply reply × IsTrue (ends_command reply)
 
 abbrev pub AreTold : List Entry → Type 0
 AreTold entries = AllByRecursion (λ entry. Tells entry.reply) entries
+
+-- each event is a command by itself
+abbrev pub AreCommands : List Entry → Type 0
+AreCommands entries = AllByRecursion (λ entry. is_command entry.event ≡ true) entries
 
 -- the replies of each kind
 new_tells : (journal : List Entry) (found : Option ℕ) → IfSome found IsNumber → IsNumber (made_count journal + 1) →
@@ -135,32 +140,32 @@ freed_tells files journal contexts legal below lists =
     let few = number_of_live files journal c legal live in
     omega arith)
 
--- the reply to an event, after told replies
+-- the reply to what is a command by itself, after told replies
 reply_tells : (files : Files) (journal : List Entry) → IsLegal files journal → AreTold journal → IsNumber (made_count journal + 1) →
-    (event : Event) (reply : Reply) → IsReply files journal event reply → Tells reply
-reply_tells files journal legal told below (events.New name kind) reply is =
+    (event : Event) (reply : Reply) → is_command event ≡ true → IsReply files journal event reply → Tells reply
+reply_tells files journal legal told below (events.New name kind) reply command is =
     subst Tells (sym is) (new_tells journal (named journal name) (named_number files journal legal below name) below)
-reply_tells files journal legal told below (events.Rule place name answer) reply is =
+reply_tells files journal legal told below (events.Rule place name answer) reply command is =
     subst Tells (sym is) (rule_tells journal place (named_number files journal legal below))
-reply_tells files journal legal told below (events.Enter name) reply is = absurd is
-reply_tells files journal legal told below (events.EnterHandle handle) reply is = absurd is
-reply_tells files journal legal told below (events.Lookup context name version) reply is = absurd is
-reply_tells files journal legal told below (events.Ask step context name) reply is = absurd is
-reply_tells files journal legal told below (events.Publish context name candidate) reply is = absurd is
-reply_tells files journal legal told below (events.Place user key) reply is = absurd is
-reply_tells files journal legal told below (events.LoadStatic key field kind) reply is = absurd is
-reply_tells files journal legal told below (events.StoreStatic key field value) reply is = absurd is
-reply_tells files journal legal told below (events.Hold handle assembly method) reply is = absurd is
-reply_tells files journal legal told below (events.DropHandle handle) reply is = absurd is
-reply_tells files journal legal told below (events.Weak handle name) reply is =
+reply_tells files journal legal told below (events.Enter name) reply command is = cc
+reply_tells files journal legal told below (events.EnterHandle handle) reply command is = absurd is
+reply_tells files journal legal told below (events.Lookup context name version) reply command is = cc
+reply_tells files journal legal told below (events.Ask step context name) reply command is = cc
+reply_tells files journal legal told below (events.Publish context name candidate) reply command is = cc
+reply_tells files journal legal told below (events.Place user key) reply command is = absurd is
+reply_tells files journal legal told below (events.LoadStatic key field kind) reply command is = absurd is
+reply_tells files journal legal told below (events.StoreStatic key field value) reply command is = absurd is
+reply_tells files journal legal told below (events.Hold handle assembly method) reply command is = absurd is
+reply_tells files journal legal told below (events.DropHandle handle) reply command is = absurd is
+reply_tells files journal legal told below (events.Weak handle name) reply command is =
     subst Tells (sym is) (weak_tells (weakly journal handle) (named journal name) (named_number files journal legal below name))
-reply_tells files journal legal told below (events.Alive handle) reply is =
+reply_tells files journal legal told below (events.Alive handle) reply command is =
     subst Tells (sym is) (alive_tells journal (weakly journal handle) (weakly_number journal handle told))
-reply_tells files journal legal told below (events.Unload name) reply is =
+reply_tells files journal legal told below (events.Unload name) reply command is =
     subst Tells (sym is) (unload_tells journal (named journal name) (named_number files journal legal below name))
-reply_tells files journal legal told below events.Collect reply is =
+reply_tells files journal legal told below events.Collect reply command is =
     subst Tells (sym is.2) (((tt, (freed_tells files journal is.0 legal below is.1, tt)), refl), refl)
-reply_tells files journal legal told below (events.Leave operation) reply is = absurd is
+reply_tells files journal legal told below (events.Leave operation) reply command is = cc
 
 -- fewer contexts were made than there are entries
 length-option : {X : Type 0} (o : Option X) (xs : List X) → length (cons_option o xs) ≤ 1 + length xs
@@ -181,18 +186,18 @@ front_legal files before after legal front entry rest at =
     legal front entry (rest ++ after) (ap (λ j. j ++ after) at ∙ append_assoc front (entry ∷ rest) after)
 
 told_from : (files : Files) (before after : List Entry) → IsLegal files (before ++ after) → length (before ++ after) < 2 ^ 32 →
-    AreTold before → AreTold after
-told_from files before [] legal few told = tt
-told_from files before (e ∷ es) legal few told =
+    AreCommands after → AreTold before → AreTold after
+told_from files before [] legal few commands told = tt
+told_from files before (e ∷ es) legal few commands told =
     let joined : (before ++ e ∷ []) ++ es ≡ before ++ e ∷ es = append_assoc before (e ∷ []) es in
     let below : made_count before + 1 < 2 ^ 32 = omega (arith, few, made-le before, length-append before (e ∷ es)) in
     let here : Tells e.reply =
-    reply_tells files before (front_legal files before (e ∷ es) legal) told below e.event e.reply (legal before e es refl) in (
+    reply_tells files before (front_legal files before (e ∷ es) legal) told below e.event e.reply commands.0 (legal before e es refl) in (
       here,
       told_from files (before ++ e ∷ []) es (subst (λ (j : List Entry). IsLegal files j) (sym joined) legal)
-          (subst (λ (j : List Entry). length j < 2 ^ 32) (sym joined) few) (told-push before e told here),
+          (subst (λ (j : List Entry). length j < 2 ^ 32) (sym joined) few) commands.1 (told-push before e told here),
     )
 
--- the replies of a legal journal of few entries are told
-pub replies_are_told : (files : Files) (journal : List Entry) → IsLegal files journal → length journal < 2 ^ 32 → AreTold journal
-replies_are_told files journal legal few = told_from files [] journal legal few tt
+-- the replies to commands, in a legal journal of few entries, are told
+pub replies_are_told : (files : Files) (journal : List Entry) → IsLegal files journal → length journal < 2 ^ 32 → AreCommands journal → AreTold journal
+replies_are_told files journal legal few commands = told_from files [] journal legal few commands tt

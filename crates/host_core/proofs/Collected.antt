@@ -15,7 +15,8 @@ use Rattle.host_events.specs.Contexts.{is_live, is_unloaded, made_count, IsUnloa
 use Rattle.host_events.specs.Files.{Files}
 use Rattle.host_events.specs.Journal.{IsLegal}
 use Rattle.host_events.specs.Reachable.{HasCause, IsRoot, IsPath, IsEdge, makes_edge}
-use Rattle.host_events.specs.Reachable.HasCause.{loaded}
+use Rattle.host_events.specs.Operations.{IsOpen}
+use Rattle.host_events.specs.Reachable.HasCause.{loaded, pinned}
 use Rattle.host_events.specs.Reachable.IsPath.{here, along}
 use Rattle.host_events.specs.Reply.{ListsUnkept}
 
@@ -89,54 +90,27 @@ IsCollectedBelow-more entries n old new false collected is now =
     in
     subst (λ l. IsCollectedBelow entries (n + 1) l) (sym now) kept
 
--- no entry makes an edge, so a path leads from a context to itself alone
-no_edge_by : (journal : List Entry) (x y : ℕ) (event : Event) (reply : Reply) → makes_edge journal x y event reply ≡ false
-no_edge_by journal x y (events.New name kind) reply = refl
-no_edge_by journal x y (events.Rule place name answer) reply = refl
-no_edge_by journal x y (events.Enter name) reply = refl
-no_edge_by journal x y (events.EnterHandle handle) reply = refl
-no_edge_by journal x y (events.Lookup context name version) reply = refl
-no_edge_by journal x y (events.Ask step context name) reply = refl
-no_edge_by journal x y (events.Publish context name candidate) reply = refl
-no_edge_by journal x y (events.Place user key) reply = refl
-no_edge_by journal x y (events.LoadStatic key field kind) reply = refl
-no_edge_by journal x y (events.StoreStatic key field value) reply = refl
-no_edge_by journal x y (events.Hold handle assembly method) reply = refl
-no_edge_by journal x y (events.DropHandle handle) reply = refl
-no_edge_by journal x y (events.Weak handle name) reply = refl
-no_edge_by journal x y (events.Alive handle) reply = refl
-no_edge_by journal x y (events.Unload name) reply = refl
-no_edge_by journal x y events.Collect reply = refl
-no_edge_by journal x y (events.Leave operation) reply = refl
+-- where no context refers to another, a path leads from a context to itself alone
+path_here : (entries : List Entry) {x y : ℕ} → ((a b : ℕ) → IsEdge entries a b → ⊥) → IsPath entries x y → x ≡ y
+path_here entries apart here = refl
+path_here entries apart (along {x = a} {y = b} edge path) = absurd (apart a b edge)
 
-no_edge_among : (journal entries : List Entry) (x y : ℕ) →
-    list_any (λ e. makes_edge journal x y e.event e.reply) entries ≡ false
-no_edge_among journal [] x y = refl
-no_edge_among journal (e ∷ es) x y =
-    ap (λ b. b || list_any (λ e. makes_edge journal x y e.event e.reply) es) (no_edge_by journal x y e.event e.reply)
-    ∙ no_edge_among journal es x y
-
-no_edge : (entries : List Entry) (x y : ℕ) → IsEdge entries x y → ⊥
-no_edge entries x y edge = cc (edge, no_edge_among entries entries x y)
-
-path_here : (entries : List Entry) {x y : ℕ} → IsPath entries x y → x ≡ y
-path_here entries here = refl
-path_here entries (along {x = a} {y = b} edge path) = absurd (no_edge entries a b edge)
-
-not_unloaded : (entries : List Entry) (c : ℕ) → HasCause entries c → ¬ IsUnloaded entries c
-not_unloaded entries c (loaded stays) = stays
+not_unloaded : (entries : List Entry) (c : ℕ) → ((k : ℕ) → IsOpen entries k → ⊥) → HasCause entries c → ¬ IsUnloaded entries c
+not_unloaded entries c none (loaded stays) = stays
+not_unloaded entries c none (pinned k is_open pins) = absurd (none k is_open)
 
 pub ListsUnkept-from_collected : (files : Files) (entries : List Entry) (n : ℕ) (list : List ℕ) → IsLegal files entries →
+    ((a b : ℕ) → IsEdge entries a b → ⊥) → ((k : ℕ) → IsOpen entries k → ⊥) →
     made_count entries + 1 ≤ n → IsCollectedBelow entries n list → ListsUnkept entries list
-ListsUnkept-from_collected files entries n list legal all collected = record {
+ListsUnkept-from_collected files entries n list legal apart none all collected = record {
   rising = collected.rising;
   each = λ c. (
     (λ has.
         let tests = and_parts (is_unloaded entries c) (is_live entries c) (collected.has c has).1 in (
           tests.1,
           λ kept.
-              let root = subst (λ k. IsRoot entries k) (path_here entries kept.2) kept.1 in
-              not_unloaded entries c root.cause tests.0,
+              let root = subst (λ k. IsRoot entries k) (path_here entries apart kept.2) kept.1 in
+              not_unloaded entries c none root.cause tests.0,
         )),
     (λ both. elim (cases_Bool (is_unloaded entries c)) [
       | inl unloaded ↦

@@ -1,7 +1,7 @@
 -- What one more entry leaves as it was in the host.
 use Rattle.std.proofs.Common.{◌≡◌, ℕ, ◌+◌, ◌<◌, ◌≤◌, ◌^◌, Bool, true, false, ◌&&◌, eqb, cond, List, [], ◌∷◌, ◌++◌, length, refl, sym, ap, subst, ◌∙◌, inl, inr, arith}
 use Rattle.std.specs.Option.{is_some}
-use Rattle.std.specs.List.{filter}
+use Rattle.std.specs.List.{filter, list_all}
 use Rattle.std.proofs.lemmas.Bool.{and_parts, cases_Bool, eqb-true}
 use Rattle.std.proofs.lemmas.List.{length-append, length_push}
 use Rattle.std.proofs.lemmas.List.Elements.{filter-append}
@@ -12,11 +12,13 @@ use Rattle.host_events.specs.declared.journal.Entry.{Entry}
 use Rattle.host_events.specs.declared.order.Order.{Order}
 use Rattle.host_events.specs.declared.order.Room.{Room}
 use Rattle.host_events.specs.Contexts.{freed_contexts, made_context, made_count, named}
+use Rattle.host_events.specs.Bindings.{binding}
 use Rattle.host_events.specs.Files.{Files}
+use Rattle.host_events.specs.Operations.{is_command}
 use Rattle.host_events.specs.Handles.{weakly}
 use Rattle.host_events.specs.Reply.{IsReply}
 use Rattle.host_events.specs.Steps.{entry_of}
-use Rattle.host_events.proofs.Cases.{alive-each, new-each, rule-each, unload-each, weak-each}
+use Rattle.host_events.proofs.Cases.{alive-each, ask-each, enter-each, lookup-each, new-each, publish-each, rule-each, unload-each, weak-each}
 use Rattle.host_events.proofs.Push.{IsProper-push}
 use Rattle.host_core.specs.declared.bounds.Bounds.{Bounds}
 use Rattle.host_core.specs.declared.bounds.Share.{Share}
@@ -60,11 +62,15 @@ CanRetell-from_room n contexts files journal (events.New name kind) reply room i
     subst (λ r. CanRetell r room) (sym is) (new-each (λ r. CanRetell r room) journal (named journal name) tt (λ c. tt))
 CanRetell-from_room n contexts files journal (events.Rule place name answer) reply room is few all has =
     subst (λ r. CanRetell r room) (sym is) (rule-each (λ r. CanRetell r room) journal place tt (λ c. tt) (λ c. tt))
-CanRetell-from_room n contexts files journal (events.Enter name) reply room is few all has = absurd is
+CanRetell-from_room n contexts files journal (events.Enter name) reply room is few all has =
+    subst (λ r. CanRetell r room) (sym is) (enter-each (λ r. CanRetell r room) journal (named journal name) tt (λ c. tt) (λ c. tt))
 CanRetell-from_room n contexts files journal (events.EnterHandle handle) reply room is few all has = absurd is
-CanRetell-from_room n contexts files journal (events.Lookup context name version) reply room is few all has = absurd is
-CanRetell-from_room n contexts files journal (events.Ask step context name) reply room is few all has = absurd is
-CanRetell-from_room n contexts files journal (events.Publish context name candidate) reply room is few all has = absurd is
+CanRetell-from_room n contexts files journal (events.Lookup context name version) reply room is few all has =
+    subst (λ r. CanRetell r room) (sym is) (lookup-each (λ r. CanRetell r room) files journal version (binding journal context name) tt (λ a. tt) (λ a. tt))
+CanRetell-from_room n contexts files journal (events.Ask step context name) reply room is few all has =
+    subst (λ r. CanRetell r room) (sym is) (ask-each (λ r. CanRetell r room) files journal step context name tt (λ i. tt) (λ a. tt))
+CanRetell-from_room n contexts files journal (events.Publish context name candidate) reply room is few all has =
+    subst (λ r. CanRetell r room) (sym is) (publish-each (λ r. CanRetell r room) journal context candidate (binding journal context name) (λ a. tt) (λ a. tt) (λ a. tt) tt)
 CanRetell-from_room n contexts files journal (events.Place user key) reply room is few all has = absurd is
 CanRetell-from_room n contexts files journal (events.LoadStatic key field kind) reply room is few all has = absurd is
 CanRetell-from_room n contexts files journal (events.StoreStatic key field value) reply room is few all has = absurd is
@@ -79,7 +85,7 @@ CanRetell-from_room n contexts files journal (events.Unload name) reply room is 
 CanRetell-from_room n contexts files journal events.Collect reply room is few all has =
     subst (λ r. CanRetell r room) (sym is.2)
     (refl, has.0.0, omega (arith, has.1, ap (λ r. length (freed_contexts r)) is.2))
-CanRetell-from_room n contexts files journal (events.Leave operation) reply room is few all has = absurd is
+CanRetell-from_room n contexts files journal (events.Leave operation) reply room is few all has = subst (λ r. CanRetell r room) (sym is) tt
 
 length-filter_push : {X : Type 0} (p : X → Bool) (xs : List X) (x : X) →
     length (filter p (xs ++ x ∷ [])) ≡ length (filter p xs) + cond (p x) 1 0
@@ -89,6 +95,13 @@ length-filter_push p xs x =
     one : (b : Bool) → length (cond b (x ∷ []) []) ≡ cond b 1 0
     one true = refl
     one false = refl
+
+-- what passes for all passes for one more
+all-push : {X : Type 0} (p : X → Bool) (xs : List X) (x : X) → list_all p xs ≡ true → p x ≡ true → list_all p (xs ++ x ∷ []) ≡ true
+all-push p [] x all here = ap (λ b. b && true) here
+all-push p (y ∷ ys) x all here =
+    let parts = and_parts (p y) (list_all p ys) all in
+    ap (λ b. b && list_all p (ys ++ x ∷ [])) parts.0 ∙ all-push p ys x parts.1 here
 
 -- what an event can make it may make where the thread may ask for it
 may_make_context : (bounds : Bounds) (journal : List Entry) (thread : ℕ) (event : Event) →
@@ -203,6 +216,7 @@ IsAllowed-push fixed journal thread order reply short allowed accepted is =
     let may = accepted.makes in
     record {
       proper = IsProper-push fixed.files journal (entry_of thread order.event reply) allowed.proper accepted.fits is;
+      commands = all-push (λ (e : Entry). is_command e.event) journal (entry_of thread order.event reply) allowed.commands accepted.command;
       made_up = allowed.made_up;
       numbered = allowed.numbered;
       few = omega (arith, length-le fixed journal thread order reply allowed accepted);

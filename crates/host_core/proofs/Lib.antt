@@ -1,3 +1,4 @@
+pub mod Calm
 pub mod Collected
 pub mod Keeps
 pub mod Scans

@@ -7,12 +7,13 @@ use Rattle.host_events.specs.declared.event.Event.{Event}
 use Rattle.host_events.specs.declared.event.Event.TheVariants as events
 use Rattle.host_events.specs.declared.journal.Entry.{Entry}
 use Rattle.host_events.specs.declared.reply.Reply.{Reply}
+use Rattle.host_events.specs.Bindings.{binding}
 use Rattle.host_events.specs.Contexts.{made_context, named}
 use Rattle.host_events.specs.Files.{Files}
 use Rattle.host_events.specs.Handles.{weakly}
 use Rattle.host_events.specs.Journal.{IsLegal, own_entries}
 use Rattle.host_events.specs.Reply.{IsReply}
-use Rattle.host_events.proofs.Cases.{alive-each, new-each, rule-each, unload-each, weak-each}
+use Rattle.host_events.proofs.Cases.{alive-each, ask-each, enter-each, lookup-each, new-each, publish-each, rule-each, unload-each, weak-each}
 use Rattle.host_core.specs.Allowed.{makes_context_by, makes_handle, makes_handle_by, sets_rule, sets_rule_by, used, used_events}
 
 pub used_events-own : (journal : List Entry) (thread : ℕ) → used_events journal thread ≡ length (own_entries journal thread)
@@ -74,11 +75,15 @@ pub contexts-count : Counts (λ r. is_some (made_context r)) makes_context_by
 contexts-count files journal (events.New name kind) reply is makes = refl
 contexts-count files journal (events.Rule place name answer) reply is makes =
     cc (ap (λ r. is_some (made_context r)) is, rule-each (λ r. is_some (made_context r) ≡ false) journal place refl (λ c. refl) (λ c. refl))
-contexts-count files journal (events.Enter name) reply is makes = absurd is
+contexts-count files journal (events.Enter name) reply is makes =
+    cc (ap (λ r. is_some (made_context r)) is, enter-each (λ r. is_some (made_context r) ≡ false) journal (named journal name) refl (λ c. refl) (λ c. refl))
 contexts-count files journal (events.EnterHandle handle) reply is makes = absurd is
-contexts-count files journal (events.Lookup context name version) reply is makes = absurd is
-contexts-count files journal (events.Ask step context name) reply is makes = absurd is
-contexts-count files journal (events.Publish context name candidate) reply is makes = absurd is
+contexts-count files journal (events.Lookup context name version) reply is makes =
+    cc (ap (λ r. is_some (made_context r)) is, lookup-each (λ r. is_some (made_context r) ≡ false) files journal version (binding journal context name) refl (λ a. refl) (λ a. refl))
+contexts-count files journal (events.Ask step context name) reply is makes =
+    cc (ap (λ r. is_some (made_context r)) is, ask-each (λ r. is_some (made_context r) ≡ false) files journal step context name refl (λ i. refl) (λ a. refl))
+contexts-count files journal (events.Publish context name candidate) reply is makes =
+    cc (ap (λ r. is_some (made_context r)) is, publish-each (λ r. is_some (made_context r) ≡ false) journal context candidate (binding journal context name) (λ a. refl) (λ a. refl) (λ a. refl) refl)
 contexts-count files journal (events.Place user key) reply is makes = absurd is
 contexts-count files journal (events.LoadStatic key field kind) reply is makes = absurd is
 contexts-count files journal (events.StoreStatic key field value) reply is makes = absurd is
@@ -91,18 +96,22 @@ contexts-count files journal (events.Alive handle) reply is makes =
 contexts-count files journal (events.Unload name) reply is makes =
     cc (ap (λ r. is_some (made_context r)) is, unload-each (λ r. is_some (made_context r) ≡ false) journal (named journal name) refl (λ c. refl) (λ c. refl) (λ c. refl))
 contexts-count files journal events.Collect reply is makes = cc (ap (λ r. is_some (made_context r)) is.2)
-contexts-count files journal (events.Leave operation) reply is makes = absurd is
+contexts-count files journal (events.Leave operation) reply is makes = cc (ap (λ r. is_some (made_context r)) is)
 
 pub handles-count : Counts (λ r. makes_handle r) makes_handle_by
 handles-count files journal (events.New name kind) reply is makes =
     cc (ap (λ r. makes_handle r) is, new-each (λ r. makes_handle r ≡ false) journal (named journal name) refl (λ c. refl))
 handles-count files journal (events.Rule place name answer) reply is makes =
     cc (ap (λ r. makes_handle r) is, rule-each (λ r. makes_handle r ≡ false) journal place refl (λ c. refl) (λ c. refl))
-handles-count files journal (events.Enter name) reply is makes = absurd is
+handles-count files journal (events.Enter name) reply is makes =
+    cc (ap (λ r. makes_handle r) is, enter-each (λ r. makes_handle r ≡ false) journal (named journal name) refl (λ c. refl) (λ c. refl))
 handles-count files journal (events.EnterHandle handle) reply is makes = absurd is
-handles-count files journal (events.Lookup context name version) reply is makes = absurd is
-handles-count files journal (events.Ask step context name) reply is makes = absurd is
-handles-count files journal (events.Publish context name candidate) reply is makes = absurd is
+handles-count files journal (events.Lookup context name version) reply is makes =
+    cc (ap (λ r. makes_handle r) is, lookup-each (λ r. makes_handle r ≡ false) files journal version (binding journal context name) refl (λ a. refl) (λ a. refl))
+handles-count files journal (events.Ask step context name) reply is makes =
+    cc (ap (λ r. makes_handle r) is, ask-each (λ r. makes_handle r ≡ false) files journal step context name refl (λ i. refl) (λ a. refl))
+handles-count files journal (events.Publish context name candidate) reply is makes =
+    cc (ap (λ r. makes_handle r) is, publish-each (λ r. makes_handle r ≡ false) journal context candidate (binding journal context name) (λ a. refl) (λ a. refl) (λ a. refl) refl)
 handles-count files journal (events.Place user key) reply is makes = absurd is
 handles-count files journal (events.LoadStatic key field kind) reply is makes = absurd is
 handles-count files journal (events.StoreStatic key field value) reply is makes = absurd is
@@ -114,17 +123,21 @@ handles-count files journal (events.Alive handle) reply is makes =
 handles-count files journal (events.Unload name) reply is makes =
     cc (ap (λ r. makes_handle r) is, unload-each (λ r. makes_handle r ≡ false) journal (named journal name) refl (λ c. refl) (λ c. refl) (λ c. refl))
 handles-count files journal events.Collect reply is makes = cc (ap (λ r. makes_handle r) is.2)
-handles-count files journal (events.Leave operation) reply is makes = absurd is
+handles-count files journal (events.Leave operation) reply is makes = cc (ap (λ r. makes_handle r) is)
 
 pub rules-count : Counts (λ r. sets_rule r) sets_rule_by
 rules-count files journal (events.New name kind) reply is makes =
     cc (ap (λ r. sets_rule r) is, new-each (λ r. sets_rule r ≡ false) journal (named journal name) refl (λ c. refl))
 rules-count files journal (events.Rule place name answer) reply is makes = refl
-rules-count files journal (events.Enter name) reply is makes = absurd is
+rules-count files journal (events.Enter name) reply is makes =
+    cc (ap (λ r. sets_rule r) is, enter-each (λ r. sets_rule r ≡ false) journal (named journal name) refl (λ c. refl) (λ c. refl))
 rules-count files journal (events.EnterHandle handle) reply is makes = absurd is
-rules-count files journal (events.Lookup context name version) reply is makes = absurd is
-rules-count files journal (events.Ask step context name) reply is makes = absurd is
-rules-count files journal (events.Publish context name candidate) reply is makes = absurd is
+rules-count files journal (events.Lookup context name version) reply is makes =
+    cc (ap (λ r. sets_rule r) is, lookup-each (λ r. sets_rule r ≡ false) files journal version (binding journal context name) refl (λ a. refl) (λ a. refl))
+rules-count files journal (events.Ask step context name) reply is makes =
+    cc (ap (λ r. sets_rule r) is, ask-each (λ r. sets_rule r ≡ false) files journal step context name refl (λ i. refl) (λ a. refl))
+rules-count files journal (events.Publish context name candidate) reply is makes =
+    cc (ap (λ r. sets_rule r) is, publish-each (λ r. sets_rule r ≡ false) journal context candidate (binding journal context name) (λ a. refl) (λ a. refl) (λ a. refl) refl)
 rules-count files journal (events.Place user key) reply is makes = absurd is
 rules-count files journal (events.LoadStatic key field kind) reply is makes = absurd is
 rules-count files journal (events.StoreStatic key field value) reply is makes = absurd is
@@ -137,4 +150,4 @@ rules-count files journal (events.Alive handle) reply is makes =
 rules-count files journal (events.Unload name) reply is makes =
     cc (ap (λ r. sets_rule r) is, unload-each (λ r. sets_rule r ≡ false) journal (named journal name) refl (λ c. refl) (λ c. refl) (λ c. refl))
 rules-count files journal events.Collect reply is makes = cc (ap (λ r. sets_rule r) is.2)
-rules-count files journal (events.Leave operation) reply is makes = absurd is
+rules-count files journal (events.Leave operation) reply is makes = cc (ap (λ r. sets_rule r) is)

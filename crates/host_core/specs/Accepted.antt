@@ -1,11 +1,12 @@
 -- Which orders the host takes (own).
-use Rattle.std.specs.Prelude.{ℕ, ◌≡◌, ◌<◌, ◌≤◌, List, []}
+use Rattle.std.specs.Prelude.{ℕ, ◌≡◌, ◌<◌, ◌≤◌, List, [], IsTrue}
 use Rattle.host_events.specs.declared.event.Event.{Event}
 use Rattle.host_events.specs.declared.event.Event.TheVariants as events
 use Rattle.host_events.specs.declared.journal.Entry.{Entry}
 use Rattle.host_events.specs.declared.order.Order.{Order}
 use Rattle.host_events.specs.declared.order.Room.{Room}
 use Rattle.host_events.specs.Journal.{Fits}
+use Rattle.host_events.specs.Operations.{is_command}
 use Rattle.host_events.specs.Reserved.{sealed}
 use Rattle.host_core.specs.declared.bounds.Bounds.{Bounds}
 use Rattle.host_core.specs.Allowed.{Fixed, used_events, used_contexts, used_handles, used_rules}
@@ -75,6 +76,8 @@ MayMake bounds journal thread (events.Leave operation) = Unit {0}
 -- the thread may give this order after the journal
 pub record IsAccepted {C : Type 0} (fixed : Fixed) (journal : List Entry) (thread : ℕ) (order : Order C) : Type 0 where
   pub fits : Fits journal thread order.event
+  -- no operation begins yet
+  pub command : IsTrue (is_command order.event)
   pub same : order.again ≡ order.event
   pub events : used_events journal thread < part_of (λ share. share.events) fixed.bounds.shares thread
   pub makes : MayMake fixed.bounds journal thread order.event

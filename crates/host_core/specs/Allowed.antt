@@ -1,6 +1,6 @@
 -- Which journals the host allows (own).
-use Rattle.std.specs.Prelude.{ℕ, ◌≡◌, ◌≤◌, ◌<◌, ◌^◌, ◌==◌, ◌&&◌, Bool, true, false, List, length, is_some}
-use Rattle.std.specs.List.{filter}
+use Rattle.std.specs.Prelude.{ℕ, ◌≡◌, ◌≤◌, ◌<◌, ◌^◌, ◌==◌, ◌&&◌, Bool, true, false, List, length, is_some, IsTrue}
+use Rattle.std.specs.List.{filter, list_all}
 use Rattle.host_events.specs.declared.event.Event.{Event}
 use Rattle.host_events.specs.declared.event.Event.TheVariants as events
 use Rattle.host_events.specs.declared.journal.Entry.{Entry}
@@ -9,6 +9,7 @@ use Rattle.host_events.specs.declared.reply.Reply.TheVariants as replies
 use Rattle.host_events.specs.Contexts.{made_context}
 use Rattle.host_events.specs.Files.{Files}
 use Rattle.host_events.specs.Journal.{IsProper}
+use Rattle.host_events.specs.Operations.{is_command}
 use Rattle.host_core.specs.declared.bounds.Bounds.{Bounds}
 use Rattle.host_core.specs.Bounds.{bounds_of, most_contexts, part_of}
 
@@ -165,10 +166,11 @@ used_handles journal thread = used makes_handle journal thread
 abbrev pub used_rules : List Entry → ℕ → ℕ
 used_rules journal thread = used sets_rule journal thread
 
--- A proper journal of fewer than 2^32 entries in which no thread has more than its share. A thread without a
--- share has no entry.
+-- A proper journal of fewer than 2^32 entries, each a command by itself, in which no thread has more than its share.
+-- A thread without a share has no entry.
 pub record IsAllowed (fixed : Fixed) (journal : List Entry) : Type 0 where
   pub proper : IsProper fixed.files journal
+  pub commands : IsTrue (list_all (λ entry. is_command entry.event) journal)
   pub made_up : fixed.bounds ≡ bounds_of fixed.bounds.shares
   pub numbered : fixed.bounds.contexts ≤ most_contexts
   pub few : length journal < 2 ^ 32

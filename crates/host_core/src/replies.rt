@@ -2,7 +2,10 @@
 ghost use Rattle.std.specs.Prelude.{ℕ, ◌≡◌, ◌+◌, ◌<◌, ◌≤◌, ◌^◌, ◌&&◌, if◌then◌else◌, [], ◌∷◌, ◌++◌};
 ghost use Rattle.std.specs.Prelude.{length};
 ghost use Rattle.host_events.specs.Contexts.{freed_contexts, is_live, is_unloaded, made_count};
+ghost use Rattle.std.specs.Prelude.{IsTrue};
+ghost use Rattle.std.specs.List.{list_all};
 ghost use Rattle.host_events.specs.Files.{Files};
+ghost use Rattle.host_events.specs.Operations.{is_command};
 ghost use Rattle.host_events.specs.Journal.{Fits, IsLegal};
 ghost use Rattle.host_events.specs.Reply.{ListsUnkept, IsReply, reply_to_new, reply_to_rule};
 ghost use Rattle.host_events.specs.Reply.{reply_to_rule_in, reply_to_weak, reply_to_alive};
@@ -15,10 +18,12 @@ use crate::contexts::{is_collectible, is_live, is_unloaded, made_count, named};
 use crate::handles::weakly;
 use host_events::{Datum, Entry, Event, Numbers, Reply, Reserved, Room, RuleAt, Text};
 
-/// The reply to the event after these entries. The numbers that it lists stand in the room.
+/// The reply to a command after these entries, which are commands. The numbers that it lists stand in the room.
 pub(crate) fn reply_to(entries: &[Entry], event: &Event, room: Numbers) -> Reply
     requires fits { (thread : ℕ) × Fits entries.now thread event.now }
     requires legal { (files : Files) × IsLegal files entries.now }
+    requires command { IsTrue (is_command event.now) }
+    requires commands { IsTrue (list_all (λ entry. is_command entry.event) entries.now) }
     requires counted { made_count entries.now + 1 < 2 ^ 32 }
     requires empty { room.list ≡ [] }
     requires room { numbers_due (made_count entries.now + 1) event.now ≤ room.spare }
@@ -100,10 +105,11 @@ fn reply_to_unload(entries: &[Entry], context: Option<u32>) -> Reply
     }
 }
 
-/// The live contexts that nothing keeps, in rising order: no context refers to another one, so
-/// these are the ones that were given up.
+/// The live contexts that nothing keeps, in rising order: no operation begins yet and no context
+/// refers to another one, so these are the ones that were given up.
 fn unkept(entries: &[Entry], room: Numbers) -> Numbers
     requires legal { (files : Files) × IsLegal files entries.now }
+    requires commands { IsTrue (list_all (λ entry. is_command entry.event) entries.now) }
     requires counted { made_count entries.now + 1 < 2 ^ 32 }
     requires empty { room.list ≡ [] }
     requires room { made_count entries.now + 1 ≤ room.spare }

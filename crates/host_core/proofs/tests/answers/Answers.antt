@@ -109,10 +109,10 @@ has_room entries contexts event room all is =
 accepted : {C : Type 0} (entries : ℕ) (bounds : Bounds) (journal : List Entry) (thread : ℕ) (order : Order C) →
     let share : Share = record { events = entries; contexts = entries; handles = entries; rules = entries } in
     bounds ≡ bounds_of (share ∷ share ∷ []) → length journal < entries → 1 ≤ thread → thread ≤ 2 →
-    Fits journal thread order.event → order.again ≡ order.event →
+    Fits journal thread order.event → is_command order.event ≡ true → order.again ≡ order.event →
     order.room ≡ room_for (entries + entries + 1) → order.copy ≡ room_for (entries + entries + 1) →
     IsAccepted (fixed_by bounds) journal thread order
-accepted entries bounds journal thread order is fewer low high fits same room copy =
+accepted entries bounds journal thread order is fewer low high fits command same room copy =
     let share : Share = record { events = entries; contexts = entries; handles = entries; rules = entries } in
     let shares : bounds.shares ≡ share ∷ share ∷ [] = ap (λ b. b.shares) is in
     let all : bounds.contexts ≡ entries + entries + 1 = ap (λ b. b.contexts) is ∙ omega arith in
@@ -120,6 +120,7 @@ accepted entries bounds journal thread order is fewer low high fits same room co
     λ part whole. ap (λ l. part_of part l thread) shares ∙ two_parts part share thread low high ∙ whole in
     record {
       fits = fits;
+      command = command;
       same = same;
       events = omega (arith, length-filter-le (λ e. eqb e.thread thread) journal, within (λ s. s.events) refl);
       makes = may_make bounds journal thread order.event
@@ -143,4 +144,4 @@ apply-answer-requires c =
     subst (λ f. IsAccepted f host.journal thread c.in_ok-order.order) (sym invariant.0)
     (accepted entries bounds host.journal thread c.in_ok-order.order refl (omega (arith, invariant.1, c.loop-thread-test.true))
     (omega (arith, c.clamp-thread.ensures)) (omega (arith, c.clamp-thread.ensures))
-    (c.in_ok-order.ensures.fits host.journal thread none) c.in_ok-order.ensures.same c.in_ok-order.ensures.room c.in_ok-order.ensures.copy)
+    (c.in_ok-order.ensures.fits host.journal thread none) c.in_ok-order.ensures.command c.in_ok-order.ensures.same c.in_ok-order.ensures.room c.in_ok-order.ensures.copy)

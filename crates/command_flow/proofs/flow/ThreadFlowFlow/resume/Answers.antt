@@ -7,7 +7,7 @@ use Rattle.host_events.specs.Flows.{Stand, IsResumable, trace_after}
 use Rattle.command_flow.specs.declared.code.NoCode.{NoCode}
 use Rattle.command_flow.specs.Events.{events_of}
 use Rattle.command_flow.specs.Flow.{Thread, CanCome, stand_of, steps_of, trace_of}
-use Rattle.command_flow.proofs.FlowLemmas.{few_events, trace_with, trace_without, waits_for}
+use Rattle.command_flow.proofs.FlowLemmas.{begins_none, few_events, trace_with, trace_without, waits_for}
 use Rattle.command_flow.proofs.flow.ThreadFlowFlow.resume.Goals as goal
 use Rattle.command_flow.proofs.flow.ThreadFlowFlow.resume.Goals.{in-Some, in_default}
 
@@ -18,6 +18,14 @@ take-requires-clause-due c =
     let waits = waits_for flow.at (slice_get (events_of flow.commands) (length flow.replies)) (trace_of flow) c.in-Some.answer taken in
     let within : length flow.replies < length (events_of flow.commands) = slice_get_within (events_of flow.commands) (length flow.replies) waits.0 waits.2 in
     omega (arith, few_events flow.commands)
+
+pub take-requires-clause-quiet : goal.take-requires-clause-quiet
+take-requires-clause-quiet c =
+    let flow = c.args.self.now in
+    let answer = c.in-Some.answer in
+    let taken = subst (λ (last : Option Answer). IsResumable (CanCome (trace_of flow)) (λ (a : Answer). a.reply) (λ (a : Answer). a.code) (stand_of flow) last) c.in-Some.is c.requires in
+    let waits = waits_for flow.at (slice_get (events_of flow.commands) (length flow.replies)) (trace_of flow) answer taken in
+    begins_none flow.commands (length flow.replies) waits.0 (trace_of flow) answer.reply answer.code waits.2 waits.3
 
 pub returns-clause-trace : goal.returns-clause-trace
 returns-clause-trace c =

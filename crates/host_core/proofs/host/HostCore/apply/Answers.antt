@@ -1,5 +1,6 @@
 -- What the order brings, and what the host keeps, at the fields.
-use Rattle.std.proofs.Common.{◌≡◌, ℕ, ◌+◌, ◌≤◌, List, length, refl, sym, subst, ap, ◌∙◌, arith}
+use Rattle.std.proofs.Common.{◌≡◌, ℕ, true, ◌+◌, ◌≤◌, List, length, refl, sym, subst, ap, ◌∙◌, arith}
+use Rattle.std.specs.List.{list_all}
 use Rattle.std.specs.Result.{is_ok}
 use Rattle.std.specs.Vec.{vec_capacity}
 use Rattle.std.proofs.lemmas.Bool.{cond-true}
@@ -7,6 +8,7 @@ use Rattle.host_events.specs.declared.journal.Entry.{Entry}
 use Rattle.host_events.specs.Contexts.{made_count}
 use Rattle.host_events.specs.Files.{Files, no_files}
 use Rattle.host_events.specs.Journal.{Fits, IsLegal}
+use Rattle.host_events.specs.Operations.{is_command}
 use Rattle.host_events.specs.Reply.{IsReply}
 use Rattle.host_core.specs.Accepted.{numbers_due}
 use Rattle.host_core.specs.Allowed.{IsAllowed}
@@ -22,6 +24,13 @@ reply_to-reply-requires-clause-fits g c =
 pub reply_to-reply-requires-clause-legal : goal.reply_to-reply-requires-clause-legal
 reply_to-reply-requires-clause-legal g c =
     (no_files, subst (λ (j : List Entry). IsLegal no_files j) (sym c.as_slice.ensures.value) c.self.invariant.allowed.proper.legal)
+
+pub reply_to-reply-requires-clause-commands : goal.reply_to-reply-requires-clause-commands
+reply_to-reply-requires-clause-commands g c =
+    subst (λ (j : List Entry). list_all (λ e. is_command e.event) j ≡ true) (sym c.as_slice.ensures.value) c.self.invariant.allowed.commands
+
+pub reply_to-reply-requires-clause-command : goal.reply_to-reply-requires-clause-command
+reply_to-reply-requires-clause-command g c = (IsAccepted-same c.self.view_is c.requires).command
 
 pub reply_to-reply-requires-clause-counted : goal.reply_to-reply-requires-clause-counted
 reply_to-reply-requires-clause-counted g c =
