@@ -1,6 +1,6 @@
 -- What the reader takes from the text of an event, and which events it takes.
-use Rattle.std.proofs.Common.{◌≡◌, ◌≢◌, ℕ, ◌^◌, ◌<◌, Bool, List, [], ◌∷◌, ◌++◌, drop, Option, Some, None, refl, ◌∙◌, ap, decimal}
-use Rattle.std.specs.Prelude.{option_map, if◌then◌else◌, codes}
+use Rattle.std.proofs.Common.{◌≡◌, ◌≢◌, ℕ, List, ◌++◌, drop, Option, Some, refl, ◌∙◌, ap, decimal}
+use Rattle.std.specs.Prelude.{codes}
 use Rattle.std.specs.Str.{bytes_eq}
 use Rattle.cli_words.specs.Name.{IsName}
 use Rattle.cli_words.specs.Text.{AreUnits}
@@ -20,7 +20,7 @@ use Rattle.host_events.specs.declared.event.ValueKind.{ValueKind}
 use Rattle.host_events.specs.declared.event.ValueKind.TheVariants as value_kinds
 use Rattle.host_report.specs.EventReading.{kind_read, new_read, named_answer, answer_read, rule_read, rule_of_read, lookup_read, step_named, one_named, ask_read, named_candidate, candidate_read, publish_read, place_read, value_kind_named, load_read, store_read, hold_read, weak_read, leave_read, event_of_name, of_name_read, named_event, event_read}
 use Rattle.host_report.specs.FieldReading.{number_read, name_read, version_read}
-use Rattle.host_report.specs.Fields.{Field, AreFields, spaced, version_text}
+use Rattle.host_report.specs.Fields.{AreFields, spaced, version_text}
 use Rattle.host_report.specs.KeyReading.{key_read}
 use Rattle.host_report.specs.KeyText.{key_text}
 use Rattle.host_report.specs.Keyword.{keyword_read}
@@ -28,7 +28,7 @@ use Rattle.host_report.specs.Printable.{IsPrintableEvent}
 use Rattle.host_report.specs.Quote.{quoted}
 use Rattle.host_report.specs.Reading.{IsTail, then_read}
 use Rattle.host_report.specs.ReplyReading.{value_read}
-use Rattle.host_report.specs.Table.{kind_fields, place_fields, answer_fields, step_word, candidate_fields, kind_word, units_value, event_fields}
+use Rattle.host_report.specs.Table.{kind_fields, answer_fields, step_word, candidate_fields, kind_word, units_value, event_fields}
 use Rattle.host_report.specs.TextReading.{units_read}
 use Rattle.host_report.proofs.FieldReadingLemmas.{number_spelled}
 use Rattle.host_report.proofs.KeyReadingLemmas.{key_spelled, key_in_range}

@@ -4,7 +4,7 @@ use Rattle.std.specs.Prelude.{codes, decimal}
 use Rattle.host_events.specs.declared.journal.Entry.{Entry}
 use Rattle.host_events.specs.declared.reply.Reply.{Reply}
 use Rattle.host_events.specs.declared.reply.Reply.TheVariants as replies
-use Rattle.host_report.specs.Fields.{Field, field_text, fields_text, front_text, line_text, spaced}
+use Rattle.host_report.specs.Fields.{Field, field_text, fields_text, front_text, spaced}
 use Rattle.host_report.specs.Table.{event_fields, reply_fields}
 use Rattle.host_report.specs.Report.{entry_text}
 
@@ -19,10 +19,6 @@ fields_text-append (field ∷ fields) others =
 pub two_then : (a b rest : List ℕ) → (a ++ (b ++ [])) ++ rest ≡ a ++ (b ++ rest)
 two_then a b rest =
     append_assoc a (b ++ []) rest ∙ ap (λ text. a ++ (text ++ rest)) (append-nil b)
-
--- a line of a word and a field after it
-pub counted_joined : (a b : List ℕ) → (a ++ b) ++ codes "\n" ≡ (a ++ (b ++ [])) ++ codes "\n"
-counted_joined a b = ap (λ text. (a ++ text) ++ codes "\n") (sym (append-nil b))
 
 -- the text of a reply begins with a space
 pub reply_spaced : (reply : Reply) →

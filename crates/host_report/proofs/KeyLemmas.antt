@@ -1,14 +1,13 @@
 -- The text of a key, part by part from the left, is that of the types that its parts spell.
-use Rattle.std.proofs.Common.{◌≡◌, ℕ, zero, suc, ◌+◌, ◌-◌, ◌<◌, ◌≤◌, ◌⊎◌, inl, inr, true, false, List, [], ◌∷◌, ◌++◌, length, take, drop, get_or, reverse, map, Option, refl, sym, ◌∙◌, ap, append_assoc, append-nil, arith, le-ltb, length-drop, drop-cons}
-use Rattle.std.specs.Prelude.{codes, decimal, nat_lt, ◌==◌, if◌then◌else◌}
-use Rattle.std.specs.List.{flat_map}
-use Rattle.std.proofs.lemmas.Bool.{lt-ltb, ne_eqb, eq-eqb, cases_lt, cases_eq, cases_order}
+use Rattle.std.proofs.Common.{◌≡◌, ℕ, zero, suc, ◌+◌, ◌-◌, ◌<◌, ◌≤◌, true, List, [], ◌∷◌, ◌++◌, length, take, drop, get_or, reverse, map, Option, refl, sym, ◌∙◌, ap, append_assoc, append-nil, arith, le-ltb, length-drop, drop-cons}
+use Rattle.std.specs.Prelude.{codes, decimal, ◌==◌, if◌then◌else◌}
+use Rattle.std.proofs.lemmas.Bool.{lt-ltb, ne_eqb, eq-eqb}
 use Rattle.std.proofs.lemmas.List.{take-append-drop, length-take-le, take_more, reverse-append, nil_from_length}
 use Rattle.signatures.specs.declared.key.KeyPart.{KeyPart}
 use Rattle.signatures.specs.declared.key.KeyPart.TheVariants.{Prim, Class, Vector}
 use Rattle.signatures.specs.Keys.{IsKey, key_arity}
 use Rattle.signatures.specs.Types.{are_types}
-use Rattle.host_report.specs.KeyText.{primitive_text, after_commas, arguments_text, array_texts, key_texts, key_text}
+use Rattle.host_report.specs.KeyText.{after_commas, arguments_text, array_texts, key_texts, key_text}
 use Rattle.host_report.specs.declared.line.Line.{Line}
 use Rattle.host_report.specs.Line.{Puts}
 use Rattle.host_report.proofs.LineLemmas.{puts_as, puts_then}

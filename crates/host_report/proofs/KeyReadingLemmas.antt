@@ -90,6 +90,7 @@ plain_tested (byte ∷ word) e =
 -- the name of a primitive is read as the primitive
 primitive_is : (prim : Primitive) → (list_all is_plain (primitive_text prim) ≡ true)
     × ((draft : KeyDraft) → settled (primitive_text prim) draft ≡ closed draft.outers (Prim prim ∷ draft.parts))
+unfolding primitive_named
 primitive_is primitives.Bool = (refl, λ draft. refl)
 primitive_is primitives.Char = (refl, λ draft. refl)
 primitive_is primitives.Int8 = (refl, λ draft. refl)

@@ -1,5 +1,5 @@
 -- Lemmas on texts that are put into a line.
-use Rattle.std.proofs.Common.{◌≡◌, ℕ, ◌-◌, ◌<◌, ◌≤◌, Bool, true, false, List, [], ◌++◌, length, Option, Some, None, refl, sym, ◌∙◌, ap, subst, append_assoc, append-nil, arith, length-drop, take, drop, inl, inr, Result, Ok, Err, is_err, MatchResult, OnOk, OnErr}
+use Rattle.std.proofs.Common.{◌≡◌, ℕ, ◌-◌, ◌<◌, ◌≤◌, Bool, true, false, List, [], ◌++◌, length, Option, Some, None, refl, sym, ◌∙◌, ap, subst, append_assoc, append-nil, arith, length-append, length-drop, take, drop, inl, inr, Result, Ok, Err, is_err, MatchResult, OnOk, OnErr}
 use Rattle.std.proofs.Math.Seq.{take-length}
 use Rattle.std.proofs.lemmas.List.{take-append-drop}
 use Rattle.plug_io.specs.Faults.{HasRisen}
@@ -144,4 +144,25 @@ puts_as {S} {written} {faults} {old} {new} {from} {to} {a} {b} same put =
 pub puts_none : {S : Type 0} {written : S → Option (List ℕ)} {faults : S → ℕ} {line : Line} {out : S} → Puts written faults line out line out []
 puts_none {S} {written} {faults} {line} {out} = record {
   after = λ start count before put. subst (λ text. IsPut line (written out) (faults out) start count text) (sym (append-nil before)) put;
+}
+
+waits_kept : (failed : Bool) (old new unsent text : List ℕ) (count faults : ℕ) →
+    (failed ≡ false → new ≡ old ++ text) → IsUnsent failed old count faults unsent →
+    IsUnsent failed new count faults (unsent ++ text)
+waits_kept false old new unsent text count faults more u = ap (λ waiting. waiting ++ text) u ∙ sym (more refl)
+waits_kept true old new unsent text count faults more (some, risen) = (omega (arith, length-append unsent text), risen)
+
+-- a text waits behind the others
+pub puts_kept : {S : Type 0} {written : S → Option (List ℕ)} {faults : S → ℕ} {old new : Line} {out : S} {text : List ℕ} →
+    new.failed ≡ old.failed → (old.failed ≡ false → new.buffer.items ≡ old.buffer.items ++ text) →
+    Puts written faults old out new out text
+puts_kept {S} {written} {faults} {old} {new} {out} {text} failed more = record {
+  after = λ start count before put. record {
+    sent = put.sent;
+    unsent = put.unsent ++ text;
+    whole = ap (λ told. told ++ text) put.whole ∙ append_assoc put.sent put.unsent text;
+    appended = put.appended;
+    counted = put.counted;
+    waits = rw failed (waits_kept old.failed old.buffer.items new.buffer.items put.unsent text count (faults out) more put.waits);
+  };
 }

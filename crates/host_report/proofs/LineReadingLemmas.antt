@@ -1,5 +1,5 @@
 -- What the reader takes from the text of a line, and what lines tell that it takes.
-use Rattle.std.proofs.Common.{◌≡◌, ℕ, ◌^◌, ◌<◌, List, [], ◌∷◌, ◌++◌, drop, Option, Some, None, refl, ◌∙◌, ap, decimal}
+use Rattle.std.proofs.Common.{◌≡◌, ◌≢◌, ℕ, ◌^◌, ◌<◌, List, [], ◌∷◌, ◌++◌, drop, Option, Some, None, refl, ◌∙◌, ap, decimal}
 use Rattle.std.specs.Prelude.{option_map, codes}
 use Rattle.std.specs.Str.{bytes_eq}
 use Rattle.host_events.specs.declared.event.Event.{Event}
@@ -16,7 +16,6 @@ use Rattle.host_report.specs.OutcomeReading.{outcome_read}
 use Rattle.host_report.specs.Printable.{IsPrintableEntry}
 use Rattle.host_report.specs.Quote.{quoted}
 use Rattle.host_report.specs.Reading.{then_read}
-use Rattle.host_report.specs.Report.{entry_fields}
 use Rattle.host_report.specs.ReplyReading.{reply_read}
 use Rattle.host_report.specs.Table.{event_fields, reply_fields}
 use Rattle.host_report.specs.TextReading.{units_read}
@@ -25,6 +24,7 @@ use Rattle.host_report.proofs.EventReadingLemmas.{arrow, event_spelled, event_gi
 use Rattle.host_report.proofs.FieldLemmas.{reply_spaced}
 use Rattle.host_report.proofs.FieldReadingLemmas.{number_spelled}
 use Rattle.host_report.proofs.GivesLemmas.{Gives, GivesFirst, gives_any, gives_some, gives_if, gives_then, gives_map, read_then}
+use Rattle.host_report.proofs.KeywordLemmas.{not_word}
 use Rattle.host_report.proofs.OutcomeReadingLemmas.{worded_told, outcome_told, outcome_given}
 use Rattle.host_report.proofs.ReplyReadingLemmas.{number_given, units_given, reply_spelled, reply_given}
 use Rattle.host_report.proofs.TextReadingLemmas.{units_spelled}
@@ -101,3 +101,25 @@ counted_given line (Some read) first = entry_given read.0 read.1 (first.each rea
 pub told_printable : (text : List ℕ) (told : Told) → told_read text ≡ Some told → IsPrintableTold told
 unfolding told_read
 told_printable text told read = (counted_given text (number_read text) (number_given text)).each told read
+
+-- what a line tells whose first word is known
+pub worded_at : (line name rest word : List ℕ) → keyword_read line ≡ Some (name, rest) → name ≡ word →
+    worded_line line ≡ named_line line word rest
+worded_at line name rest word read is =
+    read_then (named_line line) read ∙ ap (λ (name : List ℕ). named_line line name rest) is
+
+-- any other word
+pub worded_other : (line name rest : List ℕ) → keyword_read line ≡ Some (name, rest) →
+    name ≢ codes "thread" →
+    name ≢ codes "print" →
+    name ≢ codes "journal" →
+    name ≢ codes "end" →
+    worded_line line ≡ option_map lines.Outcome (outcome_read line)
+worded_other line name rest read n0 n1 n2 n3 =
+    worded_at line name rest name read refl
+    ∙ rw (
+      not_word name (codes "thread") n0,
+      not_word name (codes "print") n1,
+      not_word name (codes "journal") n2,
+      not_word name (codes "end") n3,
+    ) refl

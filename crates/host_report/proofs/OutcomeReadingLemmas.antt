@@ -1,6 +1,7 @@
 -- What the reader takes from the text of an outcome, and which outcomes it takes.
-use Rattle.std.proofs.Common.{◌≡◌, ℕ, ◌^◌, ◌<◌, Bool, true, false, List, [], ◌∷◌, ◌++◌, drop, Option, Some, None, refl, sym, ◌∙◌, ap, append-nil, decimal}
+use Rattle.std.proofs.Common.{◌≡◌, ◌≢◌, ℕ, ◌^◌, ◌<◌, Bool, true, false, List, [], ◌∷◌, ◌++◌, drop, Option, Some, None, refl, sym, ◌∙◌, ap, append-nil, decimal}
 use Rattle.std.specs.Prelude.{IsTrue, ◌↔◌, option_map, option_and_then, if◌then◌else◌, codes}
+use Rattle.std.specs.List.{AllByRecursion}
 use Rattle.std.specs.Str.{bytes_eq}
 use Rattle.std.specs.Str.Parse.{without_leading_plus}
 use Rattle.std.proofs.lemmas.Bool.{false≢true}
@@ -18,13 +19,12 @@ use Rattle.host_events.specs.declared.reply.Reply.{Reply}
 use Rattle.host_events.specs.declared.reply.Reply.TheVariants as replies
 use Rattle.signatures.specs.declared.feature.Feature.{Feature}
 use Rattle.signatures.specs.declared.feature.Feature.TheVariants as feature
-use Rattle.signatures.specs.Features.{features, text as feature_text}
+use Rattle.signatures.specs.Features.{text as feature_text}
 use Rattle.signatures.proofs.Names.{named-exactly, named-text}
-use Rattle.host_report.specs.declared.told.Told.{Told}
 use Rattle.host_report.specs.declared.told.Told.TheVariants as lines
 use Rattle.host_report.specs.FieldReading.{word_read, is_numeral, number_read, version_read, token_read}
 use Rattle.host_report.specs.Fields.{AreFields, front_text, spaced, version_text, token_text}
-use Rattle.host_report.specs.Keyword.{keyword_read, beside}
+use Rattle.host_report.specs.Keyword.{keyword_read}
 use Rattle.host_report.specs.LineReading.{named_line, counted_line, told_read}
 use Rattle.host_report.specs.OutcomeReading.{plain_outcomes, plain_outcome, of_number, of_text, bad_member_read, given_read, version_low_read, check_named, bad_image_read, feature_named, unsupported_read, rule_named, verify_fault_read, replied_read, or_else, named_outcome, outcome_read}
 use Rattle.host_report.specs.Printable.{ends_command, IsPrintableReply, IsPrintableOutcome}
@@ -37,7 +37,7 @@ use Rattle.host_report.proofs.FieldReadingLemmas.{number_spelled}
 use Rattle.host_report.proofs.TextReadingLemmas.{units_spelled}
 use Rattle.host_report.proofs.WordReadingLemmas.{version_spelled, version_in_range, token_spelled, token_in_range}
 use Rattle.host_report.proofs.GivesLemmas.{Gives, GivesFirst, gives_any, gives_all, gives_some, gives_none, gives_if, gives_tested, gives_then, gives_map, gives_and_then, gives_beside, read_then}
-use Rattle.host_report.proofs.KeywordLemmas.{is_keyword, plain_word, worded, no_number}
+use Rattle.host_report.proofs.KeywordLemmas.{is_keyword, plain_word, worded, no_number, not_word, beside_none}
 use Rattle.host_report.proofs.ReplyReadingLemmas.{number_given, units_given, value_tail, value_spelled, value_given, numbers_text, numbers_tail, reply_spelled, reply_given}
 use Rattle.host_report.proofs.TextThenLemmas.{text_then}
 
@@ -408,3 +408,43 @@ pub outcome_at : (text name rest word : List ℕ) → keyword_read text ≡ Some
 unfolding outcome_read
 outcome_at text name rest word read is =
     ap (λ read. then_read read (named_outcome text)) read ∙ ap (λ (name : List ℕ). named_outcome text name rest) is
+
+-- any other word
+pub outcome_other : (text name rest : List ℕ) → keyword_read text ≡ Some (name, rest) →
+    name ≢ codes "Value" →
+    name ≢ codes "VersionLow" →
+    name ≢ codes "BadImage" →
+    name ≢ codes "Unsupported" →
+    name ≢ codes "VerifyFault" →
+    name ≢ codes "BadMember" →
+    name ≢ codes "Assembly" →
+    name ≢ codes "NotCollectible" →
+    name ≢ codes "NotFound" →
+    name ≢ codes "NameMismatch" →
+    name ≢ codes "NoType" →
+    name ≢ codes "NoMethod" →
+    name ≢ codes "NoField" →
+    name ≢ codes "Ambiguous" →
+    name ≢ codes "Threw" →
+    AllByRecursion (λ (row : List ℕ × Outcome). name ≢ row.0) plain_outcomes →
+    outcome_read text ≡ replied_read text
+outcome_other text name rest read n0 n1 n2 n3 n4 n5 n6 n7 n8 n9 n10 n11 n12 n13 n14 plain =
+    outcome_at text name rest name read refl
+    ∙ rw (
+      not_word name (codes "Value") n0,
+      not_word name (codes "VersionLow") n1,
+      not_word name (codes "BadImage") n2,
+      not_word name (codes "Unsupported") n3,
+      not_word name (codes "VerifyFault") n4,
+      not_word name (codes "BadMember") n5,
+      not_word name (codes "Assembly") n6,
+      not_word name (codes "NotCollectible") n7,
+      not_word name (codes "NotFound") n8,
+      not_word name (codes "NameMismatch") n9,
+      not_word name (codes "NoType") n10,
+      not_word name (codes "NoMethod") n11,
+      not_word name (codes "NoField") n12,
+      not_word name (codes "Ambiguous") n13,
+      not_word name (codes "Threw") n14,
+      beside_none name plain_outcomes plain,
+    ) refl

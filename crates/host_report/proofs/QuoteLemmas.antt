@@ -9,7 +9,7 @@ use Rattle.std.proofs.lemmas.Bool.{cond_both, lt-leb, le-leb}
 use Rattle.host_report.specs.declared.line.Line.{Line}
 use Rattle.host_report.specs.Line.{Puts}
 use Rattle.host_report.specs.Quote.{is_pair, unit_text, units_text, first_text, first_length, IsApart}
-use Rattle.host_report.proofs.LineLemmas.{rest_from, puts_then}
+use Rattle.host_report.proofs.LineLemmas.{rest_from, puts_as, puts_then}
 
 -- one choice in two texts
 split_if : (b : Bool) (one two rest_one rest_two : List ℕ) (n m : ℕ) (units : List ℕ) →
@@ -42,6 +42,15 @@ puts_first {n = n} units rest (done, whole, p) q e = (
       ∙ ap (λ t. (done ++ first_text rest) ++ units_text t) (next_rest rest n e),
   puts_then p q,
 )
+
+-- all was put, since nothing is left
+pub puts_ended : {S : Type 0} {written : S → Option (List ℕ)} {faults : S → ℕ} {old new : Line} {from to : S} (text : List ℕ → List ℕ) (all rest : List ℕ) →
+    text [] ≡ [] → length rest ≡ 0 →
+    (done : List ℕ) × (text all ≡ done ++ text rest) × Puts written faults old from new to done →
+    Puts written faults old from new to (text all)
+puts_ended text all [] nothing none (done, whole, put) =
+    puts_as (sym (append-nil done) ∙ ap (λ more. done ++ more) (sym nothing) ∙ sym whole) put
+puts_ended text all (unit ∷ rest) nothing none (done, whole, put) = absurd (omega arith)
 
 -- a unit that begins no pair
 pub first_alone : (unit : ℕ) (rest : List ℕ) → is_high_surrogate unit ≡ false → units_text (unit ∷ rest) ≡ unit_text unit ++ units_text rest

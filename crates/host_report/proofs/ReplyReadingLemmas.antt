@@ -18,7 +18,7 @@ use Rattle.host_report.specs.Keyword.{keyword_read, beside}
 use Rattle.host_report.specs.Printable.{IsStored, IsSealed, IsPrintableReply}
 use Rattle.host_report.specs.Reading.{IsTail, then_read}
 use Rattle.host_report.specs.ReplyReading.{named_value, value_read, numbers_within, numbers_read, plain_replies, replies_of_one, reply_of_one, numbered_reply, named_reply, reply_read}
-use Rattle.host_report.specs.Table.{numbered, reply_fields, text_value, value_fields}
+use Rattle.host_report.specs.Table.{reply_fields, text_value, value_fields}
 use Rattle.host_report.specs.TextReading.{units_read}
 use Rattle.host_report.proofs.FieldReadingLemmas.{number_spelled, number_in_range, int_spelled, int_in_range, long_spelled, long_in_range}
 use Rattle.host_report.proofs.TextReadingLemmas.{units_spelled, units_in_range}

@@ -1,10 +1,13 @@
 -- Lemmas on the texts of reports.
 use Rattle.std.proofs.Common.{◌≡◌, ℕ, ◌+◌, ◌<◌, List, Option, [], ◌∷◌, ◌++◌, length, take, get_or, sym, ◌∙◌, ap, append_assoc, append-nil, arith}
+use Rattle.std.specs.List.{flat_map}
+use Rattle.std.proofs.lemmas.Grind.{flat_map-append}
+use Rattle.std.proofs.lemmas.List.Concat.{flat_map-cons}
 use Rattle.std.proofs.lemmas.List.{take_more, length-take-le}
 use Rattle.host_report.specs.declared.line.Line.{Line}
 use Rattle.host_report.specs.Line.{Puts}
 use Rattle.host_report.specs.Report.{counted_texts}
-use Rattle.host_report.proofs.LineLemmas.{puts_then}
+use Rattle.host_report.proofs.LineLemmas.{puts_as, puts_then}
 
 -- the texts of a list in two parts
 pub counted_texts-append : {T : Type 0} (text : ℕ → T → List ℕ) (n : ℕ) (xs ys : List T) →
@@ -32,3 +35,14 @@ pub puts_numbered : {S T : Type 0} {written : S → Option (List ℕ)} {faults :
     Puts written faults old from new to (counted_texts text n (take (i + 1) xs))
 puts_numbered {S} {T} {written} {faults} {old} {mid} {new} {from} {via} {to} text n m xs i x d h number item p q =
     rw (numbered_more text n xs i d h, ← number, ← item) (puts_then p q)
+
+-- the same of texts that are not numbered
+pub puts_each : {S T : Type 0} {written : S → Option (List ℕ)} {faults : S → ℕ} {old mid new : Line} {from via to : S} (text : T → List ℕ) (xs : List T) (i : ℕ) (x d : T) →
+    i < length xs → x ≡ get_or xs i d →
+    Puts written faults old from mid via (flat_map text (take i xs)) →
+    Puts written faults mid via new to (text x) →
+    Puts written faults old from new to (flat_map text (take (i + 1) xs))
+puts_each {S} {T} {written} {faults} {old} {mid} {new} {from} {via} {to} text xs i x d h item p q =
+    puts_as (sym (ap (flat_map text) (take_more xs i d h)
+    ∙ flat_map-append text (take i xs) (get_or xs i d ∷ [])
+    ∙ ap (λ t. flat_map text (take i xs) ++ t) (flat_map-cons text (get_or xs i d) [] ∙ append-nil (text (get_or xs i d)) ∙ ap text (sym item)))) (puts_then p q)

@@ -1,7 +1,7 @@
 -- What the reader takes of a key (own: the reader's view). It goes from the right end of the text to the left:
 -- so the brackets of an array come before its element, and a class comes after its arguments are counted.
-use Rattle.std.specs.Prelude.{ℕ, ◌+◌, ◌^◌, Bool, true, false, ◌&&◌, ◌||◌, ◌==◌, nat_lt, List, [], ◌∷◌, map, reverse, Option, Some, None, if◌then◌else◌, codes}
-use Rattle.std.specs.List.{list_all}
+use Rattle.std.specs.Prelude.{ℕ, ◌+◌, ◌^◌, Bool, true, false, ◌&&◌, ◌||◌, ◌==◌, nat_lt, List, [], ◌∷◌, map, reverse, Option, Some, None, if◌then◌else◌}
+use Rattle.std.specs.List.{find, list_all}
 use Rattle.std.specs.Option.{option_map, option_and_then}
 use Rattle.std.specs.Str.{bytes_eq}
 use Rattle.signatures.specs.declared.sig.Primitive.{Primitive}
@@ -14,6 +14,7 @@ use Rattle.host_report.specs.declared.key_reading.Draft.{Draft}
 use Rattle.host_report.specs.declared.key_reading.Outer.{Outer}
 use Rattle.host_report.specs.declared.key_reading.Outer.TheVariants as outer
 use Rattle.host_report.specs.FieldReading.{parsed, valued, word_read}
+use Rattle.host_report.specs.KeyText.{primitive_text}
 
 -- what was read of a key
 pub record KeyDraft : Type 0 where
@@ -56,23 +57,27 @@ closed [] parts = Some (ready [] parts)
 closed (outer.Array ∷ outers) parts = closed outers (Vector ∷ parts)
 closed (outer.Class args ∷ outers) parts = argument_counted (outer.Class args ∷ outers) parts
 
-abbrev pub primitive_named : List ℕ → Option Primitive
-primitive_named name =
-    if bytes_eq name (codes "bool") then Some primitives.Bool
-    else if bytes_eq name (codes "char") then Some primitives.Char
-    else if bytes_eq name (codes "int8") then Some primitives.Int8
-    else if bytes_eq name (codes "uint8") then Some primitives.UInt8
-    else if bytes_eq name (codes "int16") then Some primitives.Int16
-    else if bytes_eq name (codes "uint16") then Some primitives.UInt16
-    else if bytes_eq name (codes "int32") then Some primitives.Int32
-    else if bytes_eq name (codes "uint32") then Some primitives.UInt32
-    else if bytes_eq name (codes "int64") then Some primitives.Int64
-    else if bytes_eq name (codes "uint64") then Some primitives.UInt64
-    else if bytes_eq name (codes "native") then Some primitives.Native
-    else if bytes_eq name (codes "unative") then Some primitives.UNative
-    else if bytes_eq name (codes "string") then Some primitives.Text
-    else if bytes_eq name (codes "object") then Some primitives.Object
-    else None
+-- each primitive once
+abbrev pub all_primitives : List Primitive
+all_primitives =
+    primitives.Bool
+    ∷ primitives.Char
+    ∷ primitives.Int8
+    ∷ primitives.UInt8
+    ∷ primitives.Int16
+    ∷ primitives.UInt16
+    ∷ primitives.Int32
+    ∷ primitives.UInt32
+    ∷ primitives.Int64
+    ∷ primitives.UInt64
+    ∷ primitives.Native
+    ∷ primitives.UNative
+    ∷ primitives.Text
+    ∷ primitives.Object
+    ∷ []
+
+unfoldable pub primitive_named : List ℕ → Option Primitive
+primitive_named name = find (λ prim. bytes_eq (primitive_text prim) name) all_primitives
 
 -- the primitive that a word names, where there is a word; behind a class there is none
 abbrev pub settled : List ℕ → KeyDraft → Option KeyDraft

@@ -2,6 +2,7 @@
 use Rattle.std.specs.Prelude.{ℕ, List, [], ◌∷◌, Option, Some, None, option_map, option_and_then, if◌then◌else◌, codes}
 use Rattle.std.specs.List.{find}
 use Rattle.std.specs.Str.{bytes_eq}
+use Rattle.cli_words.specs.Check.{name_of}
 use Rattle.cli_words.specs.declared.check.CheckCode.{CheckCode}
 use Rattle.cli_words.specs.declared.check.CheckCode.TheVariants as checks
 use Rattle.host_events.specs.declared.event.Datum.TheVariants as values
@@ -16,6 +17,7 @@ use Rattle.host_report.specs.Keyword.{keyword_read, beside}
 use Rattle.host_report.specs.Printable.{ends_command}
 use Rattle.host_report.specs.Reading.{then_read}
 use Rattle.host_report.specs.ReplyReading.{value_read, reply_read}
+use Rattle.host_report.specs.Table.{rule_word}
 use Rattle.host_report.specs.TextReading.{units_read}
 
 -- the outcomes that are a word, and no reply
@@ -55,27 +57,31 @@ version_low_read text =
     then_read (units_read text) (λ name rest.
     then_read (version_read rest) (λ version rest. Some (outcomes.VersionLow name version)))
 
+-- each check once
+abbrev pub all_checks : List CheckCode
+all_checks =
+    checks.Cut
+    ∷ checks.NoMz
+    ∷ checks.NoPe
+    ∷ checks.Magic
+    ∷ checks.NoCli
+    ∷ checks.Outside
+    ∷ checks.NotIlOnly
+    ∷ checks.RootSignature
+    ∷ checks.Bounds
+    ∷ checks.EditStream
+    ∷ checks.NoTables
+    ∷ checks.Table
+    ∷ checks.Index
+    ∷ checks.List
+    ∷ checks.Text
+    ∷ checks.NoAssembly
+    ∷ checks.TooLong
+    ∷ checks.Absent
+    ∷ []
+
 abbrev pub check_named : List ℕ → Option CheckCode
-check_named name = beside name (
-    (codes "cut", checks.Cut)
-    ∷ (codes "no-mz", checks.NoMz)
-    ∷ (codes "no-pe", checks.NoPe)
-    ∷ (codes "magic", checks.Magic)
-    ∷ (codes "no-cli", checks.NoCli)
-    ∷ (codes "outside", checks.Outside)
-    ∷ (codes "not-il-only", checks.NotIlOnly)
-    ∷ (codes "root-signature", checks.RootSignature)
-    ∷ (codes "bounds", checks.Bounds)
-    ∷ (codes "edit-stream", checks.EditStream)
-    ∷ (codes "no-tables", checks.NoTables)
-    ∷ (codes "table", checks.Table)
-    ∷ (codes "index", checks.Index)
-    ∷ (codes "list", checks.List)
-    ∷ (codes "text", checks.Text)
-    ∷ (codes "no-assembly", checks.NoAssembly)
-    ∷ (codes "too-long", checks.TooLong)
-    ∷ (codes "absent", checks.Absent)
-    ∷ [])
+check_named name = find (λ code. bytes_eq (name_of code) name) all_checks
 
 abbrev pub bad_image_read : List ℕ → Option Outcome
 bad_image_read text =
@@ -92,20 +98,24 @@ abbrev pub unsupported_read : List ℕ → Option Outcome
 unsupported_read text =
     option_map outcomes.Unsupported (feature_named (word_read text).0)
 
+-- each rule once
+abbrev pub all_rules : List VerifyRule
+all_rules =
+    rules_of_code.Depth
+    ∷ rules_of_code.Kind
+    ∷ rules_of_code.Underflow
+    ∷ rules_of_code.Operand
+    ∷ rules_of_code.MaxStack
+    ∷ rules_of_code.Index
+    ∷ rules_of_code.Target
+    ∷ rules_of_code.Assign
+    ∷ rules_of_code.Member
+    ∷ rules_of_code.Return
+    ∷ rules_of_code.Region
+    ∷ []
+
 abbrev pub rule_named : List ℕ → Option VerifyRule
-rule_named name = beside name (
-    (codes "depth", rules_of_code.Depth)
-    ∷ (codes "kind", rules_of_code.Kind)
-    ∷ (codes "underflow", rules_of_code.Underflow)
-    ∷ (codes "operand", rules_of_code.Operand)
-    ∷ (codes "max-stack", rules_of_code.MaxStack)
-    ∷ (codes "index", rules_of_code.Index)
-    ∷ (codes "target", rules_of_code.Target)
-    ∷ (codes "assign", rules_of_code.Assign)
-    ∷ (codes "member", rules_of_code.Member)
-    ∷ (codes "return", rules_of_code.Return)
-    ∷ (codes "region", rules_of_code.Region)
-    ∷ [])
+rule_named name = find (λ rule. bytes_eq (rule_word rule) name) all_rules
 
 abbrev pub verify_fault_read : List ℕ → Option Outcome
 verify_fault_read text =

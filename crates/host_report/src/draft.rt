@@ -208,7 +208,10 @@ impl Entries {
             count,
             entries,
         } = self;
-        if number as usize != entries.len() + 1 || entries.len() >= count as usize {
+        if number as usize != entries.len() + 1 {
+            return Err(Unread::Differs);
+        }
+        if entries.len() >= count as usize {
             return Err(Unread::Differs);
         }
         let mut entries = entries;

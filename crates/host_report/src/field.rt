@@ -1,6 +1,6 @@
 // The fields of a line, each with the space before it.
-ghost use Rattle.std.specs.Prelude.{◌≡◌, ℕ, ◌/◌, ◌%◌, ◌<◌, ◌++◌, true, codes, decimal};
-ghost use Rattle.std.specs.Fmt.{digit_glyph, signed_decimal};
+ghost use Rattle.std.specs.Prelude.{◌≡◌, ℕ, ◌/◌, ◌%◌, ◌<◌, ◌++◌, codes, decimal};
+ghost use Rattle.std.specs.Fmt.{signed_decimal};
 ghost use Rattle.std.specs.Int.{w32, w64};
 ghost use Rattle.std.specs.List.{flat_map};
 ghost use Rattle.host_report.specs.Fields.{Field, byte_digits, field_text, spaced};
@@ -8,7 +8,7 @@ ghost use Rattle.host_report.specs.Fields.{token_text, version_text};
 ghost use Rattle.host_report.specs.Line.{Puts};
 
 use crate::line::{Line, put, put_number};
-use crate::quote::put_quoted;
+use crate::quote::{digit, put_quoted};
 use assembly_name::{SimpleName, Version};
 use cli_words::Name;
 use itoa::Buffer;
@@ -105,15 +105,4 @@ fn put_byte<S: Sink>(line: &mut Line, out: &mut S, byte: u32)
     ensures { Puts S.written S.faults line.old out.old line.new out.new (byte_digits byte) }
 {
     put(line, out, &[digit(byte / 16), digit(byte % 16)]);
-}
-
-fn digit(value: u32) -> u8
-    requires { value < 16 }
-    ensures { result ≡ digit_glyph true value }
-{
-    if value < 10 {
-        b'0' + value as u8
-    } else {
-        b'A' + (value as u8 - 10)
-    }
 }

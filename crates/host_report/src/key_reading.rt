@@ -3,7 +3,6 @@
 ghost use Rattle.std.specs.Prelude.{◌≡◌, ◌<◌, ◌≤◌, ◌+◌, ◌-◌, [], ◌∷◌, Some, IfOk, IfSome, IfNone};
 ghost use Rattle.std.specs.Prelude.{length, map, take, drop, reverse, get_or};
 ghost use Rattle.std.specs.List.{list_all};
-ghost use Rattle.std.specs.Str.{bytes_eq};
 ghost use Rattle.signatures.specs.Keys.{is_proper, key_arity};
 ghost use Rattle.signatures.specs.Types.{are_types};
 ghost use Rattle.host_report.specs.KeyReading.{argument_counted, closed, counted, drafted, is_array_next};
@@ -11,10 +10,29 @@ ghost use Rattle.host_report.specs.KeyReading.{is_mark, key_read, marked, opened
 ghost use Rattle.host_report.specs.KeyReading.{primitive_named, settled, stepped};
 ghost use Rattle.host_report.specs.Reading.{Reads};
 
+use crate::key_text::primitive_text;
 use crate::unread::Unread;
 use crate::words::{number_of, word};
 use signatures::{Key, KeyPart, Prim, TypeKey};
 use std::alloc::Global;
+
+// Each primitive once.
+const PRIMITIVES: [Prim; 14] = [
+    Prim::Bool,
+    Prim::Char,
+    Prim::Int8,
+    Prim::UInt8,
+    Prim::Int16,
+    Prim::UInt16,
+    Prim::Int32,
+    Prim::UInt32,
+    Prim::Int64,
+    Prim::UInt64,
+    Prim::Native,
+    Prim::UNative,
+    Prim::Text,
+    Prim::Object,
+];
 
 // What a type is part of.
 #[derive(Clone, Copy)]
@@ -119,8 +137,10 @@ fn settle(draft: &mut Draft, word: &[u8]) -> Result<(), Unread>
     if word.is_empty() {
         return Ok(());
     }
-    let primitive = named(word)?;
-    take_part(draft, KeyPart::Prim(primitive))
+    match named(word) {
+        Some(primitive) => take_part(draft, KeyPart::Prim(primitive)),
+        None => Err(Unread::Differs),
+    }
 }
 
 // The arguments of a class begin here, so all were read, and its own part comes next.
@@ -261,58 +281,14 @@ fn is_element(outers: &[Outer]) -> bool
     }
 }
 
-fn named(name: &[u8]) -> Result<Prim, Unread>
-    ensures { Reads (λ prim. prim) result (primitive_named name.now) }
+#[tactic(auto, unfolding(crate::specs::KeyReading::primitive_named))]
+fn named(name: &[u8]) -> Option<Prim>
+    ensures { result ≡ primitive_named name.now }
 {
-    if are_same(name, b"bool") {
-        return Ok(Prim::Bool);
-    }
-    if are_same(name, b"char") {
-        return Ok(Prim::Char);
-    }
-    if are_same(name, b"int8") {
-        return Ok(Prim::Int8);
-    }
-    if are_same(name, b"uint8") {
-        return Ok(Prim::UInt8);
-    }
-    if are_same(name, b"int16") {
-        return Ok(Prim::Int16);
-    }
-    if are_same(name, b"uint16") {
-        return Ok(Prim::UInt16);
-    }
-    if are_same(name, b"int32") {
-        return Ok(Prim::Int32);
-    }
-    if are_same(name, b"uint32") {
-        return Ok(Prim::UInt32);
-    }
-    if are_same(name, b"int64") {
-        return Ok(Prim::Int64);
-    }
-    if are_same(name, b"uint64") {
-        return Ok(Prim::UInt64);
-    }
-    if are_same(name, b"native") {
-        return Ok(Prim::Native);
-    }
-    if are_same(name, b"unative") {
-        return Ok(Prim::UNative);
-    }
-    if are_same(name, b"string") {
-        return Ok(Prim::Text);
-    }
-    if are_same(name, b"object") {
-        return Ok(Prim::Object);
-    }
-    Err(Unread::Differs)
-}
-
-fn are_same(name: &[u8], other: &[u8]) -> bool
-    ensures { result ≡ bytes_eq name.now other.now }
-{
-    name == other
+    PRIMITIVES
+        .iter()
+        .copied()
+        .find(|prim| primitive_text(*prim) == name)
 }
 
 fn is_key(parts: &[KeyPart]) -> bool

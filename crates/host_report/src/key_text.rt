@@ -47,9 +47,10 @@ fn put_part<S: Sink>(line: &mut Line, out: &mut S, before: &[KeyPart], part: Key
         (opening part ++ ending (reverse before.now) part) }
 {
     put_opening(line, out, part);
-    if part.arity() == 0 {
-        put_endings(line, out, before);
+    if part.arity() > 0 {
+        return;
     }
+    put_endings(line, out, before);
 }
 
 fn put_opening<S: Sink>(line: &mut Line, out: &mut S, part: KeyPart)
@@ -74,7 +75,14 @@ fn put_class<S: Sink>(line: &mut Line, out: &mut S, assembly: u32, row: u32, arg
     put_number(line, out, assembly as u64);
     put(line, out, b"]");
     put_number(line, out, row as u64);
-    put(line, out, if args == 0 { b"" } else { b"<" });
+    put(line, out, arguments_mark(args));
+}
+
+// What stands before the arguments of a class.
+fn arguments_mark(args: u32) -> &'static [u8]
+    ensures { result.now ≡ (if args == 0 then [] else codes "<") }
+{
+    if args == 0 { b"" } else { b"<" }
 }
 
 // Puts what stands behind the types that end with the part after these ones, the inner ones first.
@@ -106,7 +114,7 @@ fn put_ending<S: Sink>(line: &mut Line, out: &mut S, part: KeyPart, types: usize
     }
 }
 
-fn primitive_text(primitive: Prim) -> &'static [u8]
+pub(crate) fn primitive_text(primitive: Prim) -> &'static [u8]
     ensures { result.now ≡ primitive_text primitive }
 {
     match primitive {

@@ -17,8 +17,6 @@ mod quote;
 mod reading;
 mod reply;
 mod reply_reading;
-#[cfg(test)]
-mod tests;
 mod text_reading;
 mod told;
 mod unread;

@@ -14,7 +14,7 @@ const ROOM: usize = 4096;
 
 /// The one buffer through which a report or an inspection is written. Once the sink has failed, it
 /// writes nothing more.
-#[derive(Debug, Drop)]
+#[derive(Drop)]
 pub struct Line {
     buffer: Vec<u8>,
     failed: bool,

@@ -121,7 +121,7 @@ fn put_of_text<S: Sink>(line: &mut Line, out: &mut S, word: &[u8], units: &[u16]
     put_string(line, out, units);
 }
 
-fn rule_word(rule: VerifyRule) -> &'static [u8]
+pub(crate) fn rule_word(rule: VerifyRule) -> &'static [u8]
     ensures { result.now ≡ rule_word rule }
 {
     match rule {

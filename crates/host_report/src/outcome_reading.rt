@@ -1,15 +1,13 @@
 // Outcomes, read.
-ghost use Rattle.std.specs.Prelude.{◌≡◌, Some};
-ghost use Rattle.std.specs.Str.{bytes_eq};
-ghost use Rattle.host_events.specs.declared.outcome.Outcome.TheVariants as outcomes;
-ghost use Rattle.host_report.specs.OutcomeReading.{bad_image_read, bad_member_read, check_named, given_read};
-ghost use Rattle.host_report.specs.OutcomeReading.{named_outcome, of_number, of_text, outcome_read};
-ghost use Rattle.host_report.specs.OutcomeReading.{plain_outcome, replied_read, rule_named};
+ghost use Rattle.std.specs.Prelude.{◌≡◌};
+ghost use Rattle.host_report.specs.OutcomeReading.{bad_image_read, check_named, given_read};
+ghost use Rattle.host_report.specs.OutcomeReading.{outcome_read, replied_read, rule_named};
 ghost use Rattle.host_report.specs.OutcomeReading.{unsupported_read, verify_fault_read, version_low_read};
 ghost use Rattle.host_report.specs.Printable.{ends_command};
 ghost use Rattle.host_report.specs.Reading.{Reads};
 
 use crate::event_reading::{simple_name, value};
+use crate::outcome::rule_word;
 use crate::reply_reading::{keyword, reply};
 use crate::text_reading::text;
 use crate::unread::Unread;
@@ -19,153 +17,73 @@ use host_events::{Datum, Outcome, Reply, VerifyRule};
 use signatures::Feature;
 use std::alloc::Global;
 
+// Each check once.
+const CHECKS: [CheckCode; 18] = [
+    CheckCode::Cut,
+    CheckCode::NoMz,
+    CheckCode::NoPe,
+    CheckCode::Magic,
+    CheckCode::NoCli,
+    CheckCode::Outside,
+    CheckCode::NotIlOnly,
+    CheckCode::RootSignature,
+    CheckCode::Bounds,
+    CheckCode::EditStream,
+    CheckCode::NoTables,
+    CheckCode::Table,
+    CheckCode::Index,
+    CheckCode::List,
+    CheckCode::Text,
+    CheckCode::NoAssembly,
+    CheckCode::TooLong,
+    CheckCode::Absent,
+];
+
+// Each rule once.
+const RULES: [VerifyRule; 11] = [
+    VerifyRule::Depth,
+    VerifyRule::Kind,
+    VerifyRule::Underflow,
+    VerifyRule::Operand,
+    VerifyRule::MaxStack,
+    VerifyRule::Index,
+    VerifyRule::Target,
+    VerifyRule::Assign,
+    VerifyRule::Member,
+    VerifyRule::Return,
+    VerifyRule::Region,
+];
+
 /// An outcome, which ends with the line.
 #[tactic(auto, unfolding(crate::specs::OutcomeReading::outcome_read))]
 pub(crate) fn outcome(alloc: Global, line: &[u8]) -> Result<Outcome, Unread>
     ensures { Reads (λ outcome. outcome) result (outcome_read line.now) }
 {
     let (name, rest) = keyword(line)?;
-    named(alloc, line, name, rest)
-}
-
-// The outcome of this name, and of what stands behind it.
-fn named(alloc: Global, line: &[u8], name: &str, rest: &[u8]) -> Result<Outcome, Unread>
-    ensures { Reads (λ outcome. outcome) result (named_outcome line.now name.now rest.now) }
-{
-    if are_same(name, "Value") {
-        return given(alloc, rest);
-    }
-    if are_same(name, "VersionLow") {
-        return version_low(alloc, rest);
-    }
-    if are_same(name, "BadImage") {
-        return bad_image(rest);
-    }
-    if are_same(name, "Unsupported") {
-        return unsupported(rest);
-    }
-    if are_same(name, "VerifyFault") {
-        return verify_fault(rest);
-    }
-    if are_same(name, "BadMember") {
-        return bad_member(rest);
-    }
-    if are_same(name, "Assembly") {
-        return assembly(rest);
-    }
-    if are_same(name, "NotCollectible") {
-        return not_collectible(rest);
-    }
-    if are_same(name, "NotFound") {
-        return not_found(alloc, rest);
-    }
-    if are_same(name, "NameMismatch") {
-        return name_mismatch(alloc, rest);
-    }
-    if are_same(name, "NoType") {
-        return no_type(alloc, rest);
-    }
-    if are_same(name, "NoMethod") {
-        return no_method(alloc, rest);
-    }
-    if are_same(name, "NoField") {
-        return no_field(alloc, rest);
-    }
-    if are_same(name, "Ambiguous") {
-        return ambiguous(alloc, rest);
-    }
-    if are_same(name, "Threw") {
-        return threw(alloc, rest);
-    }
-    match plain(name) {
-        Some(outcome) => Ok(outcome),
-        None => replied(alloc, line),
-    }
-}
-
-// A test of whether two names are the same.
-pub(crate) fn are_same(name: &str, other: &str) -> bool
-    ensures { result ≡ bytes_eq name.now other.now }
-{
-    name == other
-}
-
-fn assembly(rest: &[u8]) -> Result<Outcome, Unread>
-    ensures { Reads (λ outcome. outcome) result (of_number outcomes.Assembly rest.now) }
-{
-    let (number, _) = number(rest)?;
-    Ok(Outcome::Assembly(number))
-}
-
-fn not_collectible(rest: &[u8]) -> Result<Outcome, Unread>
-    ensures { Reads (λ outcome. outcome) result (of_number outcomes.NotCollectible rest.now) }
-{
-    let (number, _) = number(rest)?;
-    Ok(Outcome::NotCollectible(number))
-}
-
-fn not_found(alloc: Global, rest: &[u8]) -> Result<Outcome, Unread>
-    ensures { Reads (λ outcome. outcome) result (of_text outcomes.NotFound rest.now) }
-{
-    let (name, _) = simple_name(alloc, rest)?;
-    Ok(Outcome::NotFound(name))
-}
-
-fn name_mismatch(alloc: Global, rest: &[u8]) -> Result<Outcome, Unread>
-    ensures { Reads (λ outcome. outcome) result (of_text outcomes.NameMismatch rest.now) }
-{
-    let (name, _) = simple_name(alloc, rest)?;
-    Ok(Outcome::NameMismatch(name))
-}
-
-fn no_type(alloc: Global, rest: &[u8]) -> Result<Outcome, Unread>
-    ensures { Reads (λ outcome. outcome) result (of_text outcomes.NoType rest.now) }
-{
-    let (text, _) = text(alloc, rest)?;
-    Ok(Outcome::NoType(text))
-}
-
-fn no_method(alloc: Global, rest: &[u8]) -> Result<Outcome, Unread>
-    ensures { Reads (λ outcome. outcome) result (of_text outcomes.NoMethod rest.now) }
-{
-    let (text, _) = text(alloc, rest)?;
-    Ok(Outcome::NoMethod(text))
-}
-
-fn no_field(alloc: Global, rest: &[u8]) -> Result<Outcome, Unread>
-    ensures { Reads (λ outcome. outcome) result (of_text outcomes.NoField rest.now) }
-{
-    let (text, _) = text(alloc, rest)?;
-    Ok(Outcome::NoField(text))
-}
-
-fn ambiguous(alloc: Global, rest: &[u8]) -> Result<Outcome, Unread>
-    ensures { Reads (λ outcome. outcome) result (of_text outcomes.Ambiguous rest.now) }
-{
-    let (text, _) = text(alloc, rest)?;
-    Ok(Outcome::Ambiguous(text))
-}
-
-fn threw(alloc: Global, rest: &[u8]) -> Result<Outcome, Unread>
-    ensures { Reads (λ outcome. outcome) result (of_text outcomes.Threw rest.now) }
-{
-    let (text, _) = text(alloc, rest)?;
-    Ok(Outcome::Threw(text))
-}
-
-// An outcome that is its name alone, and no reply.
-fn plain(name: &str) -> Option<Outcome>
-    ensures { result ≡ plain_outcome name.now }
-{
     match name {
-        "Void" => Some(Outcome::Void),
-        "Budget" => Some(Outcome::Budget),
-        "EventLimit" => Some(Outcome::EventLimit),
-        "Depth" => Some(Outcome::Depth),
-        "HeapFull" => Some(Outcome::HeapFull),
-        "TypeDepth" => Some(Outcome::TypeDepth),
-        "StaticLong" => Some(Outcome::StaticLong),
-        _ => None,
+        "Value" => given(alloc, rest),
+        "VersionLow" => version_low(alloc, rest),
+        "BadImage" => bad_image(rest),
+        "Unsupported" => unsupported(rest),
+        "VerifyFault" => verify_fault(rest),
+        "BadMember" => Ok(Outcome::BadMember(token(rest)?.0)),
+        "Assembly" => Ok(Outcome::Assembly(number(rest)?.0)),
+        "NotCollectible" => Ok(Outcome::NotCollectible(number(rest)?.0)),
+        "NotFound" => Ok(Outcome::NotFound(simple_name(alloc, rest)?.0)),
+        "NameMismatch" => Ok(Outcome::NameMismatch(simple_name(alloc, rest)?.0)),
+        "NoType" => Ok(Outcome::NoType(text(alloc, rest)?.0)),
+        "NoMethod" => Ok(Outcome::NoMethod(text(alloc, rest)?.0)),
+        "NoField" => Ok(Outcome::NoField(text(alloc, rest)?.0)),
+        "Ambiguous" => Ok(Outcome::Ambiguous(text(alloc, rest)?.0)),
+        "Threw" => Ok(Outcome::Threw(text(alloc, rest)?.0)),
+        "Void" => Ok(Outcome::Void),
+        "Budget" => Ok(Outcome::Budget),
+        "EventLimit" => Ok(Outcome::EventLimit),
+        "Depth" => Ok(Outcome::Depth),
+        "HeapFull" => Ok(Outcome::HeapFull),
+        "TypeDepth" => Ok(Outcome::TypeDepth),
+        "StaticLong" => Ok(Outcome::StaticLong),
+        _ => replied(alloc, line),
     }
 }
 
@@ -204,13 +122,6 @@ fn ends_command(reply: &Reply) -> bool
     }
 }
 
-fn bad_member(rest: &[u8]) -> Result<Outcome, Unread>
-    ensures { Reads (λ outcome. outcome) result (bad_member_read rest.now) }
-{
-    let (token, _) = token(rest)?;
-    Ok(Outcome::BadMember(token))
-}
-
 // What a method gave back.
 fn given(alloc: Global, rest: &[u8]) -> Result<Outcome, Unread>
     ensures { Reads (λ outcome. outcome) result (given_read rest.now) }
@@ -234,35 +145,17 @@ fn bad_image(rest: &[u8]) -> Result<Outcome, Unread>
     ensures { Reads (λ outcome. outcome) result (bad_image_read rest.now) }
 {
     let (name, rest) = keyword(rest)?;
-    let code = check_named(name)?;
+    let Some(code) = check_named(name) else {
+        return Err(Unread::Differs);
+    };
     let (at, _) = number(rest)?;
     Ok(Outcome::BadImage(FailedCheck { code, at }))
 }
 
-fn check_named(name: &str) -> Result<CheckCode, Unread>
-    ensures { Reads (λ code. code) result (check_named name.now) }
+fn check_named(name: &str) -> Option<CheckCode>
+    ensures { result ≡ check_named name.now }
 {
-    match name {
-        "cut" => Ok(CheckCode::Cut),
-        "no-mz" => Ok(CheckCode::NoMz),
-        "no-pe" => Ok(CheckCode::NoPe),
-        "magic" => Ok(CheckCode::Magic),
-        "no-cli" => Ok(CheckCode::NoCli),
-        "outside" => Ok(CheckCode::Outside),
-        "not-il-only" => Ok(CheckCode::NotIlOnly),
-        "root-signature" => Ok(CheckCode::RootSignature),
-        "bounds" => Ok(CheckCode::Bounds),
-        "edit-stream" => Ok(CheckCode::EditStream),
-        "no-tables" => Ok(CheckCode::NoTables),
-        "table" => Ok(CheckCode::Table),
-        "index" => Ok(CheckCode::Index),
-        "list" => Ok(CheckCode::List),
-        "text" => Ok(CheckCode::Text),
-        "no-assembly" => Ok(CheckCode::NoAssembly),
-        "too-long" => Ok(CheckCode::TooLong),
-        "absent" => Ok(CheckCode::Absent),
-        _ => Err(Unread::Differs),
-    }
+    CHECKS.iter().copied().find(|code| code.name() == name)
 }
 
 fn unsupported(rest: &[u8]) -> Result<Outcome, Unread>
@@ -281,25 +174,14 @@ fn verify_fault(rest: &[u8]) -> Result<Outcome, Unread>
     let (token, rest) = token(rest)?;
     let (at, rest) = number(rest)?;
     let (name, _) = keyword(rest)?;
-    let rule = rule_named(name)?;
-    Ok(Outcome::VerifyFault { token, at, rule })
+    match rule_named(name.as_bytes()) {
+        Some(rule) => Ok(Outcome::VerifyFault { token, at, rule }),
+        None => Err(Unread::Differs),
+    }
 }
 
-fn rule_named(name: &str) -> Result<VerifyRule, Unread>
-    ensures { Reads (λ rule. rule) result (rule_named name.now) }
+fn rule_named(name: &[u8]) -> Option<VerifyRule>
+    ensures { result ≡ rule_named name.now }
 {
-    match name {
-        "depth" => Ok(VerifyRule::Depth),
-        "kind" => Ok(VerifyRule::Kind),
-        "underflow" => Ok(VerifyRule::Underflow),
-        "operand" => Ok(VerifyRule::Operand),
-        "max-stack" => Ok(VerifyRule::MaxStack),
-        "index" => Ok(VerifyRule::Index),
-        "target" => Ok(VerifyRule::Target),
-        "assign" => Ok(VerifyRule::Assign),
-        "member" => Ok(VerifyRule::Member),
-        "return" => Ok(VerifyRule::Return),
-        "region" => Ok(VerifyRule::Region),
-        _ => Err(Unread::Differs),
-    }
+    RULES.iter().copied().find(|rule| rule_word(*rule) == name)
 }

@@ -136,6 +136,7 @@ fn put_unit<S: Sink>(line: &mut Line, out: &mut S, unit: u16)
 fn put_escape<S: Sink>(line: &mut Line, out: &mut S, unit: u16)
     ensures { Puts S.written S.faults line.old out.old line.new out.new (escape_text unit) }
 {
+    let unit = unit as u32;
     let text = [
         b'\\',
         b'u',
@@ -147,7 +148,8 @@ fn put_escape<S: Sink>(line: &mut Line, out: &mut S, unit: u16)
     put(line, out, &text);
 }
 
-fn digit(value: u16) -> u8
+/// An upper-case hexadecimal digit.
+pub(crate) fn digit(value: u32) -> u8
     requires { value < 16 }
     ensures { result ≡ digit_glyph true value }
 {

@@ -1,19 +1,20 @@
 // What one line of a report tells.
-ghost use Rattle.std.specs.Prelude.{◌≡◌, ◌+◌, List, [], ◌∷◌, ◌++◌, codes};
+ghost use Rattle.std.specs.Prelude.{◌≡◌, ◌+◌, List, [], ◌∷◌, ◌++◌, codes, option_map};
 ghost use Rattle.host_report.specs.Fields.{line_text};
 ghost use Rattle.host_report.specs.Line.{Puts};
-ghost use Rattle.host_report.specs.LineReading.{entry_read, named_line, told_read, worded_line};
+ghost use Rattle.host_report.specs.LineReading.{entry_read, told_read, worded_line};
+ghost use Rattle.host_report.specs.OutcomeReading.{outcome_read};
 ghost use Rattle.host_report.specs.Reading.{Reads};
 ghost use Rattle.host_report.specs.Told.{told_fields};
 
 use crate::event_reading::event;
 use crate::line::{Line, put};
-use crate::outcome_reading::{are_same, outcome};
+use crate::outcome_reading::outcome;
 use crate::reply_reading::{keyword, reply};
 use crate::text_reading::text;
 use crate::unread::Unread;
 use crate::words::{number, word};
-use crate::writing::{put_entry, put_journal_line, put_outcome_line, put_printed, put_thread_line};
+use crate::writing::{put_count_line, put_entry, put_outcome_line, put_printed};
 use cli_words::Units;
 use host_events::{Entry, Outcome};
 use plug_io::Sink;
@@ -42,10 +43,10 @@ pub(crate) fn put_told<S: Sink>(line: &mut Line, out: &mut S, told: &Told)
         (line_text (told_fields told.now)) }
 {
     match told {
-        Told::Thread(thread) => put_thread_line(line, out, *thread as u64),
+        Told::Thread(thread) => put_count_line(line, out, b"thread", *thread as u64),
         Told::Print(printed) => put_printed(line, out, printed),
         Told::Outcome(outcome) => put_outcome_line(line, out, outcome),
-        Told::Journal(count) => put_journal_line(line, out, *count as u64),
+        Told::Journal(count) => put_count_line(line, out, b"journal", *count as u64),
         Told::Entry(number, entry) => put_entry(line, out, *number as u64, entry),
         Told::End => put(line, out, b"end\n"),
     }
@@ -68,28 +69,18 @@ fn worded(alloc: Global, line: &[u8]) -> Result<Told, Unread>
     ensures { Reads (λ told. told) result (worded_line line.now) }
 {
     let (name, rest) = keyword(line)?;
-    named(alloc, line, name, rest)
+    match name {
+        "thread" => Ok(Told::Thread(number(rest)?.0)),
+        "print" => Ok(Told::Print(text(alloc, rest)?.0)),
+        "journal" => Ok(Told::Journal(number(rest)?.0)),
+        "end" => Ok(Told::End),
+        _ => ended(alloc, line),
+    }
 }
 
-// What a line tells that begins with this word, and goes on so.
-fn named(alloc: Global, line: &[u8], name: &str, rest: &[u8]) -> Result<Told, Unread>
-    ensures { Reads (λ told. told) result (named_line line.now name.now rest.now) }
+fn ended(alloc: Global, line: &[u8]) -> Result<Told, Unread>
+    ensures { Reads (λ told. told) result (option_map Told.Outcome (outcome_read line.now)) }
 {
-    if are_same(name, "thread") {
-        let (thread, _) = number(rest)?;
-        return Ok(Told::Thread(thread));
-    }
-    if are_same(name, "print") {
-        let (printed, _) = text(alloc, rest)?;
-        return Ok(Told::Print(printed));
-    }
-    if are_same(name, "journal") {
-        let (count, _) = number(rest)?;
-        return Ok(Told::Journal(count));
-    }
-    if are_same(name, "end") {
-        return Ok(Told::End);
-    }
     let outcome = outcome(alloc, line)?;
     Ok(Told::Outcome(outcome))
 }

@@ -5,7 +5,7 @@ ghost use Rattle.host_report.specs.declared.unread.Unread.TheVariants.{OutOfMemo
 use std::alloc::{AllocError, AllocFailed};
 
 /// Why nothing was read.
-#[derive(Debug, Drop)]
+#[derive(Drop)]
 pub(crate) enum Unread {
     /// The text is none of the kind.
     Differs,

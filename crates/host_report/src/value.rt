@@ -1,5 +1,6 @@
 // The texts of values.
 ghost use Rattle.std.specs.Prelude.{◌≡◌, ℕ, List, [], ◌∷◌, ◌++◌, codes};
+ghost use Rattle.std.specs.Int.{w32, w64};
 ghost use Rattle.host_report.specs.Fields.{Field, fields_text};
 ghost use Rattle.host_report.specs.Table.{text_value, units_value};
 ghost use Rattle.host_report.specs.Line.{Puts};
@@ -16,22 +17,10 @@ pub(crate) fn put_units_value<S: Sink>(line: &mut Line, out: &mut S, value: &Dat
         (fields_text (units_value value.now)) }
 {
     match value {
-        Datum::I4(number) => {
-            put_word(line, out, b"i4");
-            put_int(line, out, *number);
-        }
-        Datum::I8(number) => {
-            put_word(line, out, b"i8");
-            put_long(line, out, *number);
-        }
-        Datum::N(number) => {
-            put_word(line, out, b"n");
-            put_long(line, out, *number);
-        }
-        Datum::S(text) => {
-            put_word(line, out, b"s");
-            put_string(line, out, text.units());
-        }
+        Datum::I4(number) => put_int_value(line, out, *number),
+        Datum::I8(number) => put_long_value(line, out, b"i8", *number),
+        Datum::N(number) => put_long_value(line, out, b"n", *number),
+        Datum::S(text) => put_string_value(line, out, text.units()),
         Datum::Null => put_word(line, out, b"null"),
         Datum::Ref => put_word(line, out, b"ref"),
     }
@@ -43,23 +32,35 @@ pub(crate) fn put_text_value<S: Sink>(line: &mut Line, out: &mut S, value: &Datu
         (fields_text (text_value value.now)) }
 {
     match value {
-        Datum::I4(number) => {
-            put_word(line, out, b"i4");
-            put_int(line, out, *number);
-        }
-        Datum::I8(number) => {
-            put_word(line, out, b"i8");
-            put_long(line, out, *number);
-        }
-        Datum::N(number) => {
-            put_word(line, out, b"n");
-            put_long(line, out, *number);
-        }
-        Datum::S(text) => {
-            put_word(line, out, b"s");
-            put_string(line, out, text.units());
-        }
+        Datum::I4(number) => put_int_value(line, out, *number),
+        Datum::I8(number) => put_long_value(line, out, b"i8", *number),
+        Datum::N(number) => put_long_value(line, out, b"n", *number),
+        Datum::S(text) => put_string_value(line, out, text.units()),
         Datum::Null => put_word(line, out, b"null"),
         Datum::Ref => put_word(line, out, b"ref"),
     }
+}
+
+fn put_int_value<S: Sink>(line: &mut Line, out: &mut S, number: i32)
+    ensures { Puts S.written S.faults line.old out.old line.new out.new
+        (fields_text (Field.Word (codes "i4") ∷ Field.Signed w32 number ∷ [])) }
+{
+    put_word(line, out, b"i4");
+    put_int(line, out, number);
+}
+
+fn put_long_value<S: Sink>(line: &mut Line, out: &mut S, word: &[u8], number: i64)
+    ensures { Puts S.written S.faults line.old out.old line.new out.new
+        (fields_text (Field.Word word.now ∷ Field.Signed w64 number ∷ [])) }
+{
+    put_word(line, out, word);
+    put_long(line, out, number);
+}
+
+fn put_string_value<S: Sink>(line: &mut Line, out: &mut S, units: &[u16])
+    ensures { Puts S.written S.faults line.old out.old line.new out.new
+        (fields_text (Field.Word (codes "s") ∷ Field.Quoted units.now ∷ [])) }
+{
+    put_word(line, out, b"s");
+    put_string(line, out, units);
 }

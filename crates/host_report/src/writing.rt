@@ -4,10 +4,10 @@ ghost use Rattle.std.specs.Prelude.{OnOk, OnErr};
 ghost use Rattle.std.specs.List.{flat_map};
 ghost use Rattle.plug_io.specs.Faults.{HasRisen};
 ghost use Rattle.plug_io.specs.Sink.{HasAppended};
-ghost use Rattle.host_report.specs.Fields.{line_text};
+ghost use Rattle.host_report.specs.Fields.{Field, line_text};
 ghost use Rattle.host_report.specs.Line.{HasStopped, Puts};
-ghost use Rattle.host_report.specs.Report.{command_text, counted_texts, entry_text, journal_fields};
-ghost use Rattle.host_report.specs.Report.{print_fields, report_text, thread_fields, thread_text};
+ghost use Rattle.host_report.specs.Report.{command_text, counted_texts, entry_text};
+ghost use Rattle.host_report.specs.Report.{print_fields, report_text, thread_text};
 ghost use Rattle.host_report.specs.Table.{outcome_fields};
 
 use crate::event::put_event;
@@ -53,7 +53,7 @@ fn put_report<S: Sink>(line: &mut Line, out: &mut S, ends: &[End], entries: &[En
 {
     put(line, out, b"alc 1\n");
     put_threads(line, out, ends);
-    put_journal_line(line, out, entries.len() as u64);
+    put_count_line(line, out, b"journal", entries.len() as u64);
     put_entries(line, out, entries);
     put(line, out, b"end\n");
 }
@@ -71,24 +71,17 @@ fn put_thread<S: Sink>(line: &mut Line, out: &mut S, thread: u64, commands: &[Co
     ensures { Puts S.written S.faults line.old out.old line.new out.new
         (thread_text thread commands.now) }
 {
-    put_thread_line(line, out, thread);
+    put_count_line(line, out, b"thread", thread);
     put_commands(line, out, commands);
 }
 
-pub(crate) fn put_thread_line<S: Sink>(line: &mut Line, out: &mut S, thread: u64)
+/// Puts a line of a word and a number.
+pub(crate) fn put_count_line<S: Sink>(line: &mut Line, out: &mut S, word: &[u8], count: u64)
     ensures { Puts S.written S.faults line.old out.old line.new out.new
-        (line_text (thread_fields thread)) }
+        (line_text (Field.Word word.now ∷ Field.Number count ∷ [])) }
 {
-    put(line, out, b"thread ");
-    put_number(line, out, thread);
-    put(line, out, b"\n");
-}
-
-pub(crate) fn put_journal_line<S: Sink>(line: &mut Line, out: &mut S, count: u64)
-    ensures { Puts S.written S.faults line.old out.old line.new out.new
-        (line_text (journal_fields count)) }
-{
-    put(line, out, b"journal ");
+    put(line, out, word);
+    put(line, out, b" ");
     put_number(line, out, count);
     put(line, out, b"\n");
 }

@@ -1,4 +1,4 @@
-use Rattle.std.proofs.Common.{ap, ◌∙◌}
+use Rattle.std.proofs.Common.{ap}
 use Rattle.host_report.specs.Fields.{spaced}
 use Rattle.host_report.proofs.LineLemmas.{puts_as, puts_then, puts_none}
 use Rattle.host_report.proofs.event.put_ask.Goals as goal

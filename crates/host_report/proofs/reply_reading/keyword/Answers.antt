@@ -1,5 +1,4 @@
 use Rattle.host_report.proofs.KeywordLemmas.{keyword_found, keyword_missed}
-use Rattle.host_report.proofs.LineReadingLemmas.{told_spelled}
 use Rattle.host_report.proofs.reply_reading.keyword.Goals as goal
 
 pub returns-in-Ok : goal.returns-in-Ok
