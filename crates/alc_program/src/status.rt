@@ -6,7 +6,7 @@ use std::fmt;
 use std::io::ErrorKind;
 
 /// What a call of the program came to.
-#[derive(Clone, Copy, Debug, PartialEq, Eq)]
+#[derive(Clone, Copy, PartialEq, Eq)]
 pub enum Status {
     /// The whole output was written.
     Done,

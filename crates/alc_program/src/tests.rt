@@ -1,6 +1,8 @@
 mod devices;
 mod inspect;
 mod limits;
+mod read_back;
 mod reports;
 mod samples;
+mod scripts;
 mod steps;

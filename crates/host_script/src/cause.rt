@@ -1,5 +1,5 @@
 //! Why scripts are refused.
-ghost use Rattle.std.specs.Prelude.{Some};
+ghost use Rattle.std.specs.Prelude.{◌≡◌, Some};
 ghost use Rattle.host_script.specs.Cause.{cause_name};
 
 use std::fmt;
@@ -38,27 +38,35 @@ pub enum LineCause {
     NotBuilt,
 }
 
+impl LineCause {
+    fn name(self) -> &'static str
+        ensures { result.now ≡ cause_name self }
+    {
+        match self {
+            LineCause::NotUtf8 => "NotUtf8",
+            LineCause::BadText => "BadText",
+            LineCause::UnknownWord => "UnknownWord",
+            LineCause::Place => "Place",
+            LineCause::Arity => "Arity",
+            LineCause::BadName => "BadName",
+            LineCause::BadNumber => "BadNumber",
+            LineCause::NoImage => "NoImage",
+            LineCause::Twice => "Twice",
+            LineCause::TooMany => "TooMany",
+            LineCause::NoThread => "NoThread",
+            LineCause::Absent => "Absent",
+            LineCause::TooLong => "TooLong",
+            LineCause::NotBuilt => "NotBuilt",
+        }
+    }
+}
+
 /// The name of the cause.
 impl fmt::Display for LineCause {
     ghost output = { λ cause. Some (cause_name cause) };
 
     fn fmt<W: fmt::Write>(&self, f: &mut fmt::Formatter<W>) -> fmt::Result {
-        match self {
-            LineCause::NotUtf8 => write!(f, "NotUtf8"),
-            LineCause::BadText => write!(f, "BadText"),
-            LineCause::UnknownWord => write!(f, "UnknownWord"),
-            LineCause::Place => write!(f, "Place"),
-            LineCause::Arity => write!(f, "Arity"),
-            LineCause::BadName => write!(f, "BadName"),
-            LineCause::BadNumber => write!(f, "BadNumber"),
-            LineCause::NoImage => write!(f, "NoImage"),
-            LineCause::Twice => write!(f, "Twice"),
-            LineCause::TooMany => write!(f, "TooMany"),
-            LineCause::NoThread => write!(f, "NoThread"),
-            LineCause::Absent => write!(f, "Absent"),
-            LineCause::TooLong => write!(f, "TooLong"),
-            LineCause::NotBuilt => write!(f, "NotBuilt"),
-        }
+        f.write_str(self.name())
     }
 }
 
@@ -74,7 +82,7 @@ pub enum ScriptFault {
 }
 
 /// Why a line or a word of it has no form.
-#[derive(Debug, Drop)]
+#[derive(Drop)]
 pub enum LineFault {
     Cause(LineCause),
     OutOfMemory,

@@ -3,7 +3,7 @@ use assembly_name::{SimpleName, Version};
 use cli_words::{Listed, Name, Units};
 
 /// A value that a script gives to a method.
-#[derive(Debug, Drop)]
+#[derive(Drop)]
 pub enum Argument {
     /// A number, as `-5`.
     I4(i32),
@@ -16,7 +16,7 @@ pub enum Argument {
 }
 
 /// What a rule answers.
-#[derive(Debug, Drop)]
+#[derive(Drop)]
 pub enum ScriptAnswer {
     /// The image of this number, from 1.
     Image(u32),
@@ -27,7 +27,7 @@ pub enum ScriptAnswer {
 }
 
 /// One command of a thread. Images are numbered from 1, in the order of their lines.
-#[derive(Debug, Drop)]
+#[derive(Drop)]
 pub enum Command {
     /// Makes a context under this name. A `fixed` one is never unloaded.
     New {
@@ -105,7 +105,7 @@ pub enum Command {
 }
 
 /// A command, and where it stands.
-#[derive(Debug, Drop)]
+#[derive(Drop)]
 pub struct CommandLine {
     /// The line, counted from 1.
     pub line: u32,

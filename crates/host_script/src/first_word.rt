@@ -4,7 +4,7 @@ ghost use Rattle.host_script.specs.FirstWord.{first_word, other_word, command_wo
 ghost use Rattle.host_script.specs.FirstWord.{binding_word, handle_word, context_word};
 
 /// The word with which a command begins.
-#[derive(Clone, Copy, Debug, PartialEq, Eq)]
+#[derive(Clone, Copy)]
 pub enum CommandWord {
     On,
     Resolving,
@@ -23,7 +23,7 @@ pub enum CommandWord {
 }
 
 /// The word with which a line begins.
-#[derive(Clone, Copy, Debug, PartialEq, Eq)]
+#[derive(Clone, Copy)]
 pub enum FirstWord {
     Image,
     App,

@@ -8,7 +8,7 @@ use crate::first_word::{CommandWord, FirstWord};
 use crate::words::word;
 
 /// The last words of a rule, which say what it answers.
-#[derive(Clone, Copy, Debug, PartialEq, Eq)]
+#[derive(Clone, Copy)]
 pub enum AnswerForm {
     /// `image I`
     Image,
@@ -20,7 +20,7 @@ pub enum AnswerForm {
 
 /// The form of a command, with I an image, P and Q contexts, N an assembly, v a version, T a type,
 /// M a method, h a handle and w a weak handle.
-#[derive(Clone, Copy, Debug, PartialEq, Eq)]
+#[derive(Clone, Copy)]
 pub enum CommandForm {
     /// `new P`
     New,
@@ -55,7 +55,7 @@ pub enum CommandForm {
 }
 
 /// The form of a line.
-#[derive(Clone, Copy, Debug, PartialEq, Eq)]
+#[derive(Clone, Copy)]
 pub enum Form {
     /// `image I path`
     Image,

@@ -10,7 +10,7 @@ use std::alloc::{AllocError, Global};
 use std::marker::Model;
 
 /// The line of an image.
-#[derive(Debug, Drop)]
+#[derive(Drop)]
 pub struct ImageLine {
     /// The line, counted from 1.
     pub line: u32,
@@ -20,7 +20,7 @@ pub struct ImageLine {
 
 /// The images of a script by their names, in the order of their lines, which numbers them from 1.
 /// Contracts see the list of the names, each with its line.
-#[derive(Debug, Drop)]
+#[derive(Drop)]
 pub struct ImageLines {
     by_name: IndexMap<Vec<u8>, ImageLine>,
 }

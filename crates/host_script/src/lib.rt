@@ -42,6 +42,3 @@ pub const MAX_COMMANDS: usize = 1024;
 
 /// The greatest number of arguments of a command.
 pub const MAX_ARGUMENTS: usize = 32;
-
-#[cfg(test)]
-mod tests;

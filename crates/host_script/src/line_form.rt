@@ -26,7 +26,7 @@ use std::alloc::{AllocError, Global};
 use std::str;
 
 /// What a line says.
-#[derive(Debug, Drop)]
+#[derive(Drop)]
 pub enum LineForm {
     /// There is an image of this name at this path.
     Image { name: Name, path: Utf8Text },
@@ -39,7 +39,7 @@ pub enum LineForm {
 }
 
 /// What the lines above a line say, as far as it bears on the line.
-#[derive(Debug, Drop)]
+#[derive(Drop)]
 pub struct Above {
     /// The images that are declared.
     pub images: ImageLines,
@@ -112,6 +112,7 @@ fn said(
     };
     let line = row(alloc, above, form, words)?;
     if !has_room(above, form, words.len()) {
+        drop(line);
         return Err(LineFault::Cause(LineCause::TooMany));
     }
     Ok(line)

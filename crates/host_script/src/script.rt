@@ -14,7 +14,7 @@ use cli_words::Listed;
 use std::alloc::Global;
 
 /// The line of an application.
-#[derive(Debug, Drop)]
+#[derive(Drop)]
 pub struct AppLine {
     /// The line, counted from 1.
     pub line: u32,
@@ -23,7 +23,7 @@ pub struct AppLine {
 }
 
 /// What a script says.
-#[derive(Debug, Drop)]
+#[derive(Drop)]
 pub struct Script {
     /// The images, which the order of their lines numbers from 1.
     pub images: ImageLines,

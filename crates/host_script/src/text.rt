@@ -10,7 +10,7 @@ use std::alloc::{AllocError, Global};
 use std::str;
 
 /// What a character of a word is due to be, where the word is a text.
-#[derive(Clone, Copy, Debug, PartialEq, Eq)]
+#[derive(Clone, Copy)]
 pub enum TextPlace {
     /// The opening quote.
     Opening,
@@ -40,10 +40,9 @@ fn text_in(alloc: Global, text: &str) -> Result<Option<Vec<u16>>, AllocError>
     ensures { IfOk result (λ found. option_map (λ units. units.items) found ≡ text_in text.now) }
 {
     let (place, units) = read_to_end(alloc, text)?;
-    if place == TextPlace::Closed {
-        Ok(Some(units))
-    } else {
-        Ok(None)
+    match place {
+        TextPlace::Closed => Ok(Some(units)),
+        _ => Ok(None),
     }
 }
 

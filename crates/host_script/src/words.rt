@@ -5,7 +5,7 @@ ghost use Rattle.host_script.specs.Words.{texts, words, word, after_byte, is_bet
 use std::alloc::{AllocError, Global};
 
 /// Where a byte of a line stands.
-#[derive(Clone, Copy, Debug, PartialEq, Eq)]
+#[derive(Clone, Copy)]
 pub enum Standing {
     /// Between words.
     Between,

@@ -3,15 +3,16 @@ use super::inspect::lib_image;
 use super::steps::{LIFE, LIFE_REPORT};
 use crate::status::Status;
 use crate::{alc, alc_alone};
-use plug_io::{MemFiles, MemSink, OpenGate};
+use plug_io::{MemFiles, MemSink, OpenGate, SureFiles, SureSink};
 use std::alloc::{AllocError, Global};
 use std::test::Fail;
 
-/// Room for each output of these tests, but for the long ones.
-pub(super) const ROOM: usize = 4096;
+/// Room for each output of these tests.
+const ROOM: usize = 8_388_608;
 
-/// Files of which one, `F`, is held, where there are bytes for it. The reads in `fail_at` fail.
-fn files(alloc: Global, held: Option<&[u8]>, fail_at: &[u64]) -> Result<MemFiles, AllocError> {
+/// Files of which one, `F`, is held, where there are bytes for it. The read of this number fails,
+/// counted from 1.
+fn files(alloc: Global, held: Option<&[u8]>, fail_at: u64) -> Result<MemFiles, AllocError> {
     let mut files = Vec::new(alloc);
     if let Some(bytes) = held {
         let path = String::from_str(alloc, "F")?;
@@ -19,7 +20,7 @@ fn files(alloc: Global, held: Option<&[u8]>, fail_at: &[u64]) -> Result<MemFiles
     }
     Ok(MemFiles {
         held: files,
-        fail_at: fail_at.to_vec(alloc)?,
+        fail_at: vec![in alloc; fail_at]?,
         calls: 0,
         faults: 0,
     })
@@ -35,11 +36,11 @@ fn words(alloc: Global, line: &str) -> Result<Vec<String>, AllocError> {
 }
 
 /// The answer to these words where `F` is held so, and what was written of at most so many bytes.
-pub(super) fn answer(
+fn answer(
     alloc: Global,
     line: &str,
     held: Option<&[u8]>,
-    fail_at: &[u64],
+    fail_at: u64,
     room: usize,
 ) -> Result<(Status, Vec<u8>), AllocError> {
     let asked = words(alloc, line)?;
@@ -49,13 +50,24 @@ pub(super) fn answer(
     Ok((status, out.written))
 }
 
+/// Whether the answer to these words, where `F` is held so, is this status with this text.
+pub(super) fn comes_to(
+    alloc: Global,
+    line: &str,
+    held: Option<&[u8]>,
+    status: Status,
+    text: &str,
+) -> Result<bool, AllocError> {
+    let (found, written) = answer(alloc, line, held, 0, ROOM)?;
+    Ok(found == status && written.as_slice() == text.as_bytes())
+}
+
 #[test]
 fn devices_that_fail_are_told(rt: HostRuntime) -> Result<(), Fail> {
-    let alloc = rt.alloc();
-    let lib = lib_image(alloc)?;
+    let lib = lib_image(rt.alloc())?;
     let lib = lib.as_slice();
-    for (line, held, fail_at, room, want, written) in [
-        ("steps F 0", Some(LIFE), 1u64, ROOM, Status::ReadFault, ""),
+    for (line, held, fail_at, room, want, text) in [
+        ("steps F 0", Some(LIFE), 1, ROOM, Status::ReadFault, ""),
         ("steps F 0", None, 1, ROOM, Status::ReadFault, ""),
         ("steps F 0", Some(LIFE), 2, ROOM, Status::Done, LIFE_REPORT),
         (
@@ -79,42 +91,63 @@ fn devices_that_fail_are_told(rt: HostRuntime) -> Result<(), Fail> {
         ),
         ("inspect F", Some(lib), 2, 0, Status::WriteFault, ""),
     ] {
-        let (status, out) = answer(alloc, line, held, &[fail_at], room)?;
-        assert_eq!(rt; status, want);
-        assert_eq!(rt; out.as_slice(), written.as_bytes());
+        let (status, written) = answer(rt.alloc(), line, held, fail_at, room)?;
+        assert!(rt;
+            status == want && written.as_slice() == text.as_bytes(),
+            "{line}"
+        );
     }
     Ok(())
 }
 
 #[test]
 fn knows_its_words(rt: HostRuntime) -> Result<(), Fail> {
-    let alloc = rt.alloc();
-    for (line, want) in [
-        ("steps F 0", Status::Done),
+    for (line, text) in [
+        ("steps F 0", LIFE_REPORT),
         (
             "steps F 0123456789012345678901234567890123456789012345678901234567890123",
-            Status::Done,
+            LIFE_REPORT,
         ),
-        (
-            "steps F 01234567890123456789012345678901234567890123456789012345678901234",
-            Status::Usage,
-        ),
-        ("steps F 1x", Status::Usage),
-        ("steps F", Status::Usage),
-        ("steps F 0 0", Status::Usage),
-        ("Steps F 0", Status::Usage),
-        ("inspect F", Status::Done),
-        ("inspect", Status::Usage),
-        ("inspect F F", Status::Usage),
-        ("run F", Status::Usage),
-        ("", Status::Usage),
+        ("inspect F", "inspect 1\nBadImage no-mz 0\nend\n"),
     ] {
-        let asked = words(alloc, line)?;
-        let mut files = files(alloc, Some(LIFE), &[])?;
-        let mut out = MemSink::new(alloc, ROOM)?;
-        let status = alc(&rt, alloc, &asked, &mut files, &mut out, &OpenGate);
-        assert_eq!(rt; status, want, "{line}");
-        assert_eq!(rt; out.written.is_empty(), status != Status::Done);
+        assert!(rt;
+            comes_to(rt.alloc(), line, Some(LIFE), Status::Done, text)?,
+            "{line}"
+        );
     }
+    for line in [
+        "steps F 01234567890123456789012345678901234567890123456789012345678901234",
+        "steps F 1x",
+        "steps F",
+        "steps F 0 0",
+        "Steps F 0",
+        "inspect",
+        "inspect F F",
+        "run F",
+        "",
+    ] {
+        assert!(rt;
+            comes_to(rt.alloc(), line, Some(LIFE), Status::Usage, "")?,
+            "{line}"
+        );
+    }
+    Ok(())
+}
+
+#[test]
+fn alc_answers_too(rt: HostRuntime) -> Result<(), Fail> {
+    let asked = words(rt.alloc(), "inspect F")?;
+    let mut files = SureFiles {
+        held: Vec::new(rt.alloc()),
+    };
+    let status = alc(
+        &rt,
+        rt.alloc(),
+        &asked,
+        &mut files,
+        &mut SureSink,
+        &OpenGate,
+    );
+    assert!(rt; status == Status::Done);
     Ok(())
 }

@@ -1,4 +1,4 @@
-use super::devices::{ROOM, answer};
+use super::devices::comes_to;
 use crate::status::Status;
 use std::alloc::{AllocError, Global};
 use std::test::Fail;
@@ -150,11 +150,10 @@ pub(super) fn lib_image(alloc: Global) -> Result<Vec<u8>, AllocError> {
 
 #[test]
 fn inspects_files(rt: HostRuntime) -> Result<(), Fail> {
-    let alloc = rt.alloc();
-    let lib = lib_image(alloc)?;
-    let names = image(alloc, NAME_STRINGS, &NAME_ROWS)?;
-    let long = vec![in alloc; 0; 4_194_305]?;
-    for (held, want) in [
+    let lib = lib_image(rt.alloc())?;
+    let names = image(rt.alloc(), NAME_STRINGS, &NAME_ROWS)?;
+    let long = vec![in rt.alloc(); 0; 4_194_305]?;
+    for (held, text) in [
         (Some(lib.as_slice()), LIB),
         (Some(names.as_slice()), NAMES),
         (lib.as_slice().get(..0), "inspect 1\nBadImage cut 0\nend\n"),
@@ -168,9 +167,10 @@ fn inspects_files(rt: HostRuntime) -> Result<(), Fail> {
         ),
         (None, "inspect 1\nBadImage absent 0\nend\n"),
     ] {
-        let (status, out) = answer(alloc, "inspect F", held, &[], ROOM)?;
-        assert_eq!(rt; status, Status::Done);
-        assert_eq!(rt; out.as_slice(), want.as_bytes());
+        assert!(rt;
+            comes_to(rt.alloc(), "inspect F", held, Status::Done, text)?,
+            "{text}"
+        );
     }
     Ok(())
 }

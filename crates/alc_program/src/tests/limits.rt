@@ -1,135 +1,98 @@
 //! Runs and inspections as long as there may be, with ample memory.
-use super::devices::answer;
+use super::devices::comes_to;
+use super::samples::made;
 use crate::status::Status;
-use assembly_name::Version;
 use cli_words::{Listed, Utf8Text};
-use host_script::{LineCause, MAX_COMMANDS};
-use image_maker::{FieldRow, Module, TypeRow, make};
+use host_script::MAX_COMMANDS;
+use image_maker::{FieldRow, Module, SampleName, TypeRow, sample};
 use std::alloc::{AllocError, Global};
 use std::test::Fail;
 
-/// The answer to a script that is refused at this line.
-fn refused(line: u32, cause: LineCause) -> Status {
-    Status::Script { line, cause }
-}
-
-/// Room for the outputs of these tests.
-const LONG_ROOM: usize = 8_388_608;
-
-/// Commands, and the replies that they are to be given.
+/// The commands of a thread, the lines of their ends, and the entries of the journal.
 #[derive(Drop)]
 struct Asked {
-    commands: Vec<String>,
-    replies: Vec<String>,
+    count: u64,
+    commands: String,
+    ends: String,
+    entries: String,
 }
 
 impl Asked {
-    fn push(&mut self, command: String, reply: String) -> Result<(), AllocError> {
-        self.commands.push(command)?;
-        self.replies.push(reply)?;
-        Ok(())
+    fn new(alloc: Global) -> Asked {
+        Asked {
+            count: 0,
+            commands: String::new(alloc),
+            ends: String::new(alloc),
+            entries: String::new(alloc),
+        }
     }
 
-    /// The script of one thread with these commands.
-    fn script(&self, alloc: Global) -> Result<String, AllocError> {
-        let mut script = String::from_str(alloc, "thread")?;
-        for command in &self.commands {
-            script.push_str("\n")?;
-            script.push_str(command.as_str())?;
-        }
-        Ok(script)
+    /// One more command, and the reply that it is to be given.
+    fn push(&mut self, alloc: Global, command: &str, reply: &str) -> Result<(), AllocError> {
+        self.count = self.count.saturating_add(1);
+        let number = self.count;
+        self.commands
+            .push_str(format!(in alloc; "\n{command}")?.as_str())?;
+        self.ends
+            .push_str(format!(in alloc; "{reply}\n")?.as_str())?;
+        let entry = format!(in alloc; "{number} 1 {command} -> {reply}\n")?;
+        self.entries.push_str(entry.as_str())
     }
 
-    /// The report of its run.
-    fn report(&self, alloc: Global) -> Result<String, AllocError> {
-        let mut report = String::from_str(alloc, "alc 1\nthread 1\n")?;
-        for reply in &self.replies {
-            report.push_str(reply.as_str())?;
-            report.push_str("\n")?;
+    /// One more command, and the reply of this word that names a context.
+    fn push_of(
+        &mut self,
+        alloc: Global,
+        asked: &str,
+        word: &str,
+        made: u64,
+    ) -> Result<(), AllocError> {
+        let reply = format!(in alloc; "{word} {made}")?;
+        self.push(alloc, asked, reply.as_str())
+    }
+
+    /// Whether there are as many commands as may be, and the report of their run is that of the replies.
+    fn are_replied(&self, alloc: Global) -> Result<bool, AllocError> {
+        if self.count != MAX_COMMANDS as u64 {
+            return Ok(false);
         }
-        let count = self.commands.len();
-        report.push_str(format!(in alloc; "journal {count}\n")?.as_str())?;
-        for (i, (command, reply)) in self.commands.iter().zip(&self.replies).enumerate() {
-            let number = i as u64 + 1;
-            let entry = format!(in alloc; "{number} 1 {command} -> {reply}\n")?;
-            report.push_str(entry.as_str())?;
-        }
-        report.push_str("end\n")?;
-        Ok(report)
+        let (commands, ends, entries) = (&self.commands, &self.ends, &self.entries);
+        let script = format!(in alloc; "thread{commands}")?;
+        let report = format!(in alloc;
+            "alc 1\nthread 1\n{ends}journal {MAX_COMMANDS}\n{entries}end\n"
+        )?;
+        let held = Some(script.as_bytes());
+        comes_to(alloc, "steps F 0", held, Status::Done, report.as_str())
     }
 }
 
-/// So many commands `new`, each with a name of its own.
-fn all_new(alloc: Global, count: usize) -> Result<Asked, AllocError> {
-    let mut asked = Asked {
-        commands: Vec::new(alloc),
-        replies: Vec::new(alloc),
-    };
-    for n in 0..count {
-        let made = n as u64 + 1;
-        asked.push(
-            format!(in alloc; "new c{n}")?,
-            format!(in alloc; "Made {made}")?,
-        )?;
+/// Commands `new`, each with a name of its own of 64 characters.
+fn all_new(alloc: Global) -> Result<Asked, AllocError> {
+    let mut asked = Asked::new(alloc);
+    for n in 0..MAX_COMMANDS as u64 {
+        let command = format!(in alloc; "new {n:064}")?;
+        asked.push_of(alloc, command.as_str(), "Made", n + 1)?;
     }
     Ok(asked)
 }
 
-/// So many contexts of one name that are made, given up and freed, and a `collect` more.
-fn all_freed(alloc: Global, count: u32) -> Result<Asked, AllocError> {
-    let mut asked = all_new(alloc, 0)?;
-    for n in 0..count {
-        let made = n as u64 + 1;
-        asked.push(
-            String::from_str(alloc, "new P")?,
-            format!(in alloc; "Made {made}")?,
-        )?;
-        asked.push(
-            String::from_str(alloc, "unload P")?,
-            format!(in alloc; "Unloading {made}")?,
-        )?;
-        asked.push(
-            String::from_str(alloc, "collect")?,
-            format!(in alloc; "Freed {made}")?,
-        )?;
+/// Contexts of one name that are made, given up and freed, and a `collect` more.
+fn all_freed(alloc: Global) -> Result<Asked, AllocError> {
+    let mut asked = Asked::new(alloc);
+    for n in 0..MAX_COMMANDS as u64 / 3 {
+        asked.push_of(alloc, "new P", "Made", n + 1)?;
+        asked.push_of(alloc, "unload P", "Unloading", n + 1)?;
+        asked.push_of(alloc, "collect", "Freed", n + 1)?;
     }
-    asked.push(
-        String::from_str(alloc, "collect")?,
-        String::from_str(alloc, "Freed")?,
-    )?;
+    asked.push(alloc, "collect", "Freed")?;
     Ok(asked)
 }
 
 #[test]
 fn runs_the_longest_scripts(rt: HostRuntime) -> Result<(), Fail> {
-    let alloc = rt.alloc();
-    for asked in [all_new(alloc, MAX_COMMANDS)?, all_freed(alloc, 341)?] {
-        assert_eq!(rt; asked.commands.len(), MAX_COMMANDS);
-        let script = asked.script(alloc)?;
-        let held = Some(script.as_bytes());
-        let (status, out) = answer(alloc, "steps F 0", held, &[], LONG_ROOM)?;
-        assert_eq!(rt; status, Status::Done);
-        assert!(rt; out.as_slice() == asked.report(alloc)?.as_bytes());
-    }
-    let script = all_new(alloc, MAX_COMMANDS + 1)?.script(alloc)?;
-    let held = Some(script.as_bytes());
-    assert_eq!(rt;
-        answer(alloc, "steps F 0", held, &[], LONG_ROOM)?.0,
-        refused(1026, LineCause::TooMany)
-    );
-    for (length, want) in [(64, Status::Done), (65, refused(2, LineCause::BadName))] {
-        let mut script = String::from_str(alloc, "thread\nnew ")?;
-        for _ in 0..length {
-            script.push_str("n")?;
-        }
-        let held = Some(script.as_bytes());
-        assert_eq!(rt; answer(alloc, "steps F 0", held, &[], LONG_ROOM)?.0, want);
-    }
+    assert!(rt; all_new(rt.alloc())?.are_replied(rt.alloc())?);
+    assert!(rt; all_freed(rt.alloc())?.are_replied(rt.alloc())?);
     Ok(())
-}
-
-fn text(alloc: Global, text: &str) -> Result<Utf8Text, AllocError> {
-    Ok(Utf8Text::of(String::from_str(alloc, text)?))
 }
 
 /// How many fields the long image has.
@@ -140,54 +103,54 @@ fn field_name(alloc: Global, n: u32) -> Result<String, AllocError> {
     format!(in alloc; "{n:01000}")
 }
 
-/// A module of one type with many fields that have long names.
-fn long_module(alloc: Global) -> Result<Module, AllocError> {
+/// Many fields that have long names.
+fn long_fields(alloc: Global) -> Result<Vec<FieldRow>, AllocError> {
     let mut fields = Vec::new(alloc);
     for n in 0..FIELDS {
+        let sig = [6u8, 8].to_vec(alloc)?;
         fields.push(FieldRow {
             flags: 6,
             name: Utf8Text::of(field_name(alloc, n)?),
-            sig: Listed::of([6u8, 8].to_vec(alloc)?),
+            sig: Listed::of(sig),
         })?;
     }
-    let only = TypeRow {
-        flags: 1,
-        name: text(alloc, "C")?,
-        space: text(alloc, "Long")?,
-        parent: 0,
-        fields: Listed::of(fields),
-        methods: Listed::of(Vec::new(alloc)),
-    };
-    Ok(Module {
-        name: text(alloc, "Long")?,
-        version: Version {
-            major: 1,
-            minor: 0,
-            build: 0,
-            revision: 0,
-        },
-        refs: Listed::of(Vec::new(alloc)),
-        type_refs: Listed::of(Vec::new(alloc)),
-        types: Listed::of(vec![in alloc; only]?),
-        members: Listed::of(Vec::new(alloc)),
-        specs: Listed::of(Vec::new(alloc)),
-        user_strings: Listed::of(Vec::new(alloc)),
-        guids: Listed::of(Vec::new(alloc)),
-        rows: Listed::of(Vec::new(alloc)),
-        streams: Listed::of(Vec::new(alloc)),
-    })
+    Ok(fields)
 }
 
-/// The inspection of that module's image.
+/// The sample `Lib1`, whose one type is `C` with these fields.
+fn long_module(alloc: Global) -> Result<Module, AllocError> {
+    let mut module = sample(alloc, SampleName::Lib1)?;
+    let only = TypeRow {
+        flags: 1,
+        name: Utf8Text::of(String::from_str(alloc, "C")?),
+        space: Utf8Text::of(String::new(alloc)),
+        parent: 0,
+        fields: Listed::of(long_fields(alloc)?),
+        methods: Listed::of(Vec::new(alloc)),
+    };
+    module.types = Listed::of(vec![in alloc; only]?);
+    Ok(module)
+}
+
+fn long_image(alloc: Global) -> Result<Option<Vec<u8>>, AllocError> {
+    let module = long_module(alloc)?;
+    Ok(made(alloc, &module))
+}
+
+/// The line of a field in the inspection of that module's image.
+fn field_line(alloc: Global, n: u32) -> Result<String, AllocError> {
+    let row = n.saturating_add(1);
+    format!(in alloc; "field {row} \"{n:01000}\"\n")
+}
+
 fn long_inspection(alloc: Global) -> Result<String, AllocError> {
     let mut text = String::from_str(
         alloc,
-        "inspect 1\nassembly \"Long\" 1.0.0.0\ntype 1 \"Long.C\"\n",
+        "inspect 1\nassembly \"Lib\" 1.0.0.0\nref \"System.Runtime\" 8.0.0.0\ntype 1 \"C\"\n",
     )?;
     for n in 0..FIELDS {
-        let row = n + 1;
-        let name = field_name(alloc, n)?;
-        text.push_str(format!(in alloc; "field {row} \"{name}\"\n")?.as_str())?;
+        let line = field_line(alloc, n)?;
+        text.push_str(line.as_str())?;
     }
     text.push_str("end\n")?;
     Ok(text)
@@ -195,13 +158,10 @@ fn long_inspection(alloc: Global) -> Result<String, AllocError> {
 
 #[test]
 fn inspects_a_long_image(rt: HostRuntime) -> Result<(), Fail> {
-    let alloc = rt.alloc();
-    let module = long_module(alloc)?;
-    assert!(rt; module.sound());
-    let image = make(alloc, &module)?;
+    let image = long_image(rt.alloc())?.ok_or("no image")?;
     assert!(rt; image.len() > 3_900_000);
-    let (status, out) = answer(alloc, "inspect F", Some(image.as_slice()), &[], LONG_ROOM)?;
-    assert_eq!(rt; status, Status::Done);
-    assert!(rt; out.as_slice() == long_inspection(alloc)?.as_bytes());
+    let text = long_inspection(rt.alloc())?;
+    let held = Some(image.as_slice());
+    assert!(rt; comes_to(rt.alloc(), "inspect F", held, Status::Done, text.as_str())?);
     Ok(())
 }

@@ -1,5 +1,7 @@
 use cli_words::{Name, Units};
-use host_events::{CommandEnd, ContextKind, Entry, Event, Lines, Listed, Numbers, Outcome, Reply};
+use host_events::{
+    CommandEnd, ContextKind, End, Entry, Event, Journal, Lines, Listed, Numbers, Outcome, Reply,
+};
 use host_report::{Line, report};
 use plug_io::MemSink;
 use std::alloc::{AllocError, Global};
@@ -43,9 +45,8 @@ const REPORT: &str = "alc 1\n\
     1 2 new a.b fixed -> Exists 4294967295\n\
     end\n";
 
-#[test]
-fn reports_lines_and_lists(rt: HostRuntime) -> Result<(), Fail> {
-    let alloc = rt.alloc();
+/// The ends of two threads.
+fn ends(alloc: Global) -> Result<Vec<End>, Fail> {
     let mut first = Vec::new(alloc);
     for units in [
         [].as_slice(),
@@ -57,7 +58,11 @@ fn reports_lines_and_lists(rt: HostRuntime) -> Result<(), Fail> {
         first.push(printed(alloc, units)?)?;
     }
     let second = vec![in alloc; freed(alloc)?]?;
-    let ends = vec![in alloc; Listed::of(first), Listed::of(second)]?;
+    Ok(vec![in alloc; Listed::of(first), Listed::of(second)]?)
+}
+
+/// A journal of one entry.
+fn journal(alloc: Global) -> Result<Journal, Fail> {
     let entry = Entry {
         thread: 2,
         event: Event::New {
@@ -66,14 +71,25 @@ fn reports_lines_and_lists(rt: HostRuntime) -> Result<(), Fail> {
         },
         reply: Reply::Exists(u32::MAX),
     };
-    let journal = Listed::of(vec![in alloc; entry]?);
+    Ok(Listed::of(vec![in alloc; entry]?))
+}
+
+/// Whether the report is written whole, and what is written of at most so many bytes.
+fn written(alloc: Global, room: usize) -> Result<(bool, Vec<u8>), Fail> {
+    let ends = ends(alloc)?;
+    let journal = journal(alloc)?;
     let mut line = Line::new(alloc)?;
+    let mut sink = MemSink::new(alloc, room)?;
+    let is_whole = report(&mut line, &ends, &journal, &mut sink).is_ok();
+    Ok((is_whole, sink.written))
+}
+
+#[test]
+fn reports_lines_and_lists(rt: HostRuntime) -> Result<(), Fail> {
     for (room, whole) in [(4096, true), (100, false), (10, false), (0, false)] {
-        let mut sink = MemSink::new(alloc, room)?;
-        let written = report(&mut line, &ends, &journal, &mut sink);
-        assert_eq!(rt; written.is_ok(), whole);
-        assert_eq!(rt; sink.written.len() == REPORT.len(), whole);
-        assert!(rt; REPORT.as_bytes().starts_with(sink.written.as_slice()));
+        let (is_whole, text) = written(rt.alloc(), room)?;
+        assert!(rt; is_whole == whole && (text.len() == REPORT.len()) == whole);
+        assert!(rt; REPORT.as_bytes().starts_with(text.as_slice()));
     }
     Ok(())
 }

@@ -1,4 +1,4 @@
-use super::devices::{ROOM, answer};
+use super::devices::comes_to;
 use crate::status::Status;
 use host_script::LineCause;
 use std::test::Fail;
@@ -63,26 +63,27 @@ fn runs_scripts(rt: HostRuntime) -> Result<(), Fail> {
              5 3 weak w Q -> NoContext\nend\n",
         ),
     ] {
-        let (status, out) = answer(rt.alloc(), words, Some(script.as_bytes()), &[], ROOM)?;
-        assert_eq!(rt; status, Status::Done);
-        assert_eq!(rt; out.as_slice(), report.as_bytes(), "{script}");
+        let held = Some(script.as_bytes());
+        assert!(rt;
+            comes_to(rt.alloc(), words, held, Status::Done, report)?,
+            "{script}"
+        );
     }
     Ok(())
 }
 
 #[test]
 fn refuses_what_it_cannot_run(rt: HostRuntime) -> Result<(), Fail> {
-    let alloc = rt.alloc();
-    let long = vec![in alloc; b'x'; 1_048_577]?;
+    let long = vec![in rt.alloc(); b'x'; 1_048_577]?;
     for (held, line, cause) in [
         (None, 0, LineCause::Absent),
         (Some(long.as_slice()), 0, LineCause::TooLong),
         (long.as_slice().get(1..), 1, LineCause::UnknownWord),
-        (Some(b"".as_slice()), 1, LineCause::NoThread),
-        (Some(b"thread\nnew"), 2, LineCause::Arity),
-        (Some(b"thread\nnew P\nnew P P P"), 3, LineCause::Arity),
-        (Some(b"new P\nthread"), 1, LineCause::Place),
-        (Some(b"image a x\nthread"), 1, LineCause::NotBuilt),
+        (
+            Some(b"image a x\nthread".as_slice()),
+            1,
+            LineCause::NotBuilt,
+        ),
         (
             Some(b"thread\nnew P\n\n# x\ndrop h\nload P P"),
             6,
@@ -99,9 +100,11 @@ fn refuses_what_it_cannot_run(rt: HostRuntime) -> Result<(), Fail> {
             LineCause::NotBuilt,
         ),
     ] {
-        let (status, out) = answer(alloc, "steps F 0", held, &[], ROOM)?;
-        assert_eq!(rt; status, Status::Script { line, cause }, "{held:?}");
-        assert!(rt; out.is_empty());
+        let status = Status::Script { line, cause };
+        assert!(rt;
+            comes_to(rt.alloc(), "steps F 0", held, status, "")?,
+            "{cause}"
+        );
     }
     Ok(())
 }

@@ -1,4 +1,6 @@
-use crate::{Argument, Command, LineCause, Script, ScriptFault, read_script};
+//! Scripts as they are read: the causes for which texts are refused, the limits, and what each form
+//! says.
+use host_script::{Argument, Command, LineCause, Script, ScriptFault, read_script};
 use std::alloc::{AllocError, Global};
 use std::test::Fail;
 
@@ -73,31 +75,45 @@ static REFUSED: [(&str, u32, LineCause); 55] = [
     ("thread\nweak w /", 2, LineCause::BadName),
 ];
 
-/// A script with each form, with both line ends, comments, spaces and texts.
+/// A head, and a text that may follow it so many times, and not once more.
+static MOST: [(&str, &str, usize); 3] = [
+    ("", "thread\n", 8),
+    ("thread", "\ncollect", 1024),
+    ("thread\ninvoke h", " 1", 32),
+];
+
+/// A script with each form, with both line ends, comments, spaces and texts, and an argument of each
+/// kind.
 const EVERY_FORM: &str =
     "# the head\r\nimage I lib.dll\nimage  J-2 \"a b/\\u00e9.dll\"\napp J-2\n\n  \
     thread\nnew P\r\nnew Q fixed\non P N image J-2\non P \"N N\" share Q\non P N none\n\
     resolving P N image I\nresolving P N share Q\nresolving P N none\n\
     resolve N image I\nresolve N share Q\nresolve N none\nload P I\nbind P N 00.1.65535.4\n\
-    thread\nthread\ncall P N T M 1 \"\"\n\
-    hold h P N T M\ninvoke h 007 \"\"\ndrop h\nweak w P\nalive w\nunload P\ncollect";
+    thread\nthread\ncall P N T M 007 \"\"\nhold h P N T M\n\
+    invoke h -0 -9223372036854775808L true \"\\\"\\\\\\n\\uD800\"\n\
+    drop h\nweak w P\nalive w\nunload P\ncollect";
 
-/// An argument of each kind.
-const ARGUMENTS: &str = "thread\ninvoke h -0 -9223372036854775808L true \"\\\"\\\\\\n\\uD800\"";
+/// The lines of its application, with the number of the image, and those of the commands of each
+/// thread, which a zero begins.
+const EVERY_LINE: [u32; 26] = [
+    4, 2, 0, 7, 8, 9, 10, 11, 12, 13, 14, 15, 16, 17, 18, 19, 0, 0, 22, 23, 24, 25, 26, 27, 28, 29,
+];
 
-/// The line and the cause for which a short text is refused.
+/// What a text is read as, none of which has more bytes than are taken.
+fn read(alloc: Global, text: &[u8]) -> Result<Script, ScriptFault> {
+    read_script(alloc, &text[..text.len().min(100_000)])
+}
+
+/// The line and the cause for which a text is refused.
 fn refusal(alloc: Global, text: &[u8]) -> Option<(u32, LineCause)> {
-    if text.len() > 100_000 {
-        return None;
-    }
-    match read_script(alloc, text) {
+    match read(alloc, text) {
         Err(ScriptFault::At { line, cause }) => Some((line, cause)),
         _ => None,
     }
 }
 
 #[test]
-fn refused_texts(rt: HostRuntime) {
+fn refuses_texts(rt: HostRuntime) {
     for (text, line, cause) in &REFUSED {
         let found = refusal(rt.alloc(), text.as_bytes());
         assert!(rt; found == Some((*line, *cause)), "{text}");
@@ -106,106 +122,80 @@ fn refused_texts(rt: HostRuntime) {
     assert!(rt; not_utf8 == Some((3, LineCause::NotUtf8)));
 }
 
-/// The head, and then a line so many times.
-fn repeated(alloc: Global, head: &str, line: &str, times: usize) -> Result<String, AllocError> {
-    let mut text = String::from_str(alloc, head)?;
+/// Whether the text is refused, for the cause `TooMany`, where it follows the head so many times.
+fn are_too_many(alloc: Global, head: &str, text: &str, times: usize) -> Result<bool, AllocError> {
+    let mut script = String::from_str(alloc, head)?;
     for _ in 0..times {
-        text.push_str(line)?;
+        script.push_str(text)?;
     }
-    Ok(text)
-}
-
-fn is_one_too_many(
-    alloc: Global,
-    head: &str,
-    line: &str,
-    times: usize,
-) -> Result<bool, AllocError> {
-    let text = repeated(alloc, head, line, times)?;
-    let last = refusal(alloc, text.as_bytes());
-    Ok(matches!(last, Some((_, LineCause::TooMany))))
+    let found = refusal(alloc, script.as_bytes());
+    Ok(matches!(found, Some((_, LineCause::TooMany))))
 }
 
 #[test]
-fn limits(rt: HostRuntime) -> Result<(), Fail> {
-    let alloc = rt.alloc();
-    assert!(rt; !is_one_too_many(alloc, "", "thread\n", 8)?);
-    assert!(rt; is_one_too_many(alloc, "", "thread\n", 9)?);
-    assert!(rt; !is_one_too_many(alloc, "thread", "\ncollect", 1024)?);
-    assert!(rt; is_one_too_many(alloc, "thread", "\ncollect", 1025)?);
-    assert!(rt; !is_one_too_many(alloc, "thread\ninvoke h", " 1", 32)?);
-    assert!(rt; is_one_too_many(alloc, "thread\ninvoke h", " 1", 33)?);
+fn counts_to_the_limits(rt: HostRuntime) -> Result<(), Fail> {
+    for (head, text, most) in &MOST {
+        assert!(rt; !are_too_many(rt.alloc(), head, text, *most)?, "{text}");
+        assert!(rt; are_too_many(rt.alloc(), head, text, *most + 1)?, "{text}");
+    }
     Ok(())
 }
 
-/// The script that a short text is.
-fn accepted(alloc: Global, text: &str) -> Option<Script> {
-    if text.len() > 100_000 {
-        return None;
-    }
-    read_script(alloc, text.as_bytes()).ok()
-}
-
-/// The lines of the commands of the thread at this place.
-fn lines_of(alloc: Global, script: &Script, thread: usize) -> Result<Vec<u32>, AllocError> {
+/// The lines of a script, in the order of `EVERY_LINE`.
+fn lines_of(alloc: Global, script: &Script) -> Result<Vec<u32>, AllocError> {
     let mut lines = Vec::new(alloc);
-    if let Some(commands) = script.threads.items().get(thread) {
-        for command in commands.items() {
+    for app in script.app.items() {
+        lines.push(app.line)?;
+        lines.push(app.image)?;
+    }
+    for thread in script.threads.items() {
+        lines.push(0)?;
+        for command in thread.items() {
             lines.push(command.line)?;
         }
     }
     Ok(lines)
 }
 
-fn are_from(lines: &[u32], first: u32) -> bool {
-    let mut due = first;
-    for line in lines {
-        if *line != due {
-            return false;
-        }
-        due = due.saturating_add(1);
-    }
-    true
-}
-
-#[test]
-fn every_form(rt: HostRuntime) -> Result<(), Fail> {
-    let alloc = rt.alloc();
-    let script = accepted(alloc, EVERY_FORM).ok_or("refused")?;
-    assert!(rt; script.images.number(b"J-2") == Some(2));
-    let image = script.images.line(2).ok_or("no image")?;
-    assert!(rt; image.line == 3 && image.path.as_str() == "a b/\u{e9}.dll");
-    let app = script.app.items().first().ok_or("no application")?;
-    assert!(rt; app.line == 4 && app.image == 2);
-    let first = lines_of(alloc, &script, 0)?;
-    assert!(rt; first.len() == 13 && are_from(&first, 7));
-    let second = lines_of(alloc, &script, 1)?;
-    assert!(rt; second.is_empty());
-    let third = lines_of(alloc, &script, 2)?;
-    assert!(rt; third.len() == 8 && are_from(&third, 22));
-    Ok(())
-}
-
-/// The arguments of a script's first command.
-fn first_arguments(script: &Script) -> Option<&[Argument]> {
-    let commands = script.threads.items().first()?;
-    match &commands.items().first()?.command {
+/// The arguments of the third command of the third thread.
+fn arguments_of(script: &Script) -> Option<&[Argument]> {
+    let commands = script.threads.items().get(2)?;
+    match &commands.items().get(2)?.command {
         Command::Invoke { args, .. } => Some(args.items()),
         _ => None,
     }
 }
 
-#[test]
-fn arguments(rt: HostRuntime) -> Result<(), Fail> {
-    let script = accepted(rt.alloc(), ARGUMENTS).ok_or("refused")?;
-    let found = first_arguments(&script).ok_or("no invoke")?;
-    assert!(rt; found.len() == 4);
-    assert!(rt; matches!(found[0], Argument::I4(0)));
-    assert!(rt; matches!(found[1], Argument::I8(i64::MIN)));
-    assert!(rt; matches!(found[2], Argument::Bool(true)));
-    let Argument::Text(text) = &found[3] else {
-        return Err("no text".into());
+fn has_every_kind(script: &Script) -> bool {
+    match arguments_of(script) {
+        Some(
+            [
+                Argument::I4(0),
+                Argument::I8(least),
+                Argument::Bool(true),
+                Argument::Text(text),
+            ],
+        ) => *least == i64::MIN && text.units() == [34, 92, 10, 0xD800].as_slice(),
+        _ => false,
+    }
+}
+
+/// Whether the second image is that of `EVERY_FORM`.
+fn has_second_image(script: &Script) -> bool {
+    let Some(number) = script.images.number(b"J-2") else {
+        return false;
     };
-    assert!(rt; text.units() == [34, 92, 10, 0xD800].as_slice());
+    match script.images.line(number) {
+        Some(image) => number == 2 && image.line == 3 && image.path.as_str() == "a b/\u{e9}.dll",
+        None => false,
+    }
+}
+
+#[test]
+fn reads_every_form(rt: HostRuntime) -> Result<(), Fail> {
+    let script = read(rt.alloc(), EVERY_FORM.as_bytes())?;
+    assert!(rt; has_second_image(&script) && has_every_kind(&script));
+    let lines = lines_of(rt.alloc(), &script)?;
+    assert!(rt; lines.as_slice() == EVERY_LINE.as_slice());
     Ok(())
 }
