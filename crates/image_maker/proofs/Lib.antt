@@ -32,7 +32,6 @@ pub mod RowCounts
 pub mod RowPuts
 pub mod RowPutsMethods
 pub mod SampleLaws
-pub mod SoundChecks
 pub mod SoundModule
 pub mod SoundParts
 pub mod TableBits

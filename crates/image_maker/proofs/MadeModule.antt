@@ -13,7 +13,7 @@ use Rattle.assembly_image.specs.Checks.{has_assembly, name_bytes}
 use Rattle.assembly_image.specs.Reading.{heaps_of, tables_of}
 use Rattle.image_maker.specs.declared.module.Module.{Module}
 use Rattle.image_maker.specs.declared.module.Cell.{Cell}
-use Rattle.image_maker.specs.Rows.{rows_of, all_methods}
+use Rattle.image_maker.specs.Rows.{rows_of}
 use Rattle.image_maker.specs.Sound.{count, layout_at, is_sound, is_stream_name, are_rows_sound}
 use Rattle.image_maker.specs.Size.{limit_of}
 use Rattle.image_maker.specs.File.{root_bytes, zeros, round_up}

@@ -13,7 +13,7 @@ use Rattle.image_maker.specs.declared.module.MethodRow.{MethodRow}
 use Rattle.image_maker.specs.declared.module.Cell.{Cell}
 use Rattle.image_maker.specs.Rows.{field_row, type_rows, method_rows, rows_of, all_fields, all_methods}
 use Rattle.image_maker.specs.Sound.{count}
-use Rattle.image_maker.specs.Tally.{layout_of, most}
+use Rattle.image_maker.specs.Tally.{layout_of, most_rows}
 use Rattle.image_maker.specs.Size.{long_table, row_limit}
 use Rattle.image_maker.proofs.RangeLemmas.{get_or-map-range, none_passes}
 
@@ -67,12 +67,12 @@ module _ (m : Module) where
   past t far = get_or_past (map (count m) (range_with_len 0 45)) t 0
       (rw (length-map-range_with_len (count m) 0 45) far)
 
-  pub told : (counts : List ℕ) → length counts ≡ 45 → ((t : ℕ) → t < 45 → get_or counts t 0 ≡ min (count m t) most)
-      → (t : ℕ) → get_or counts t 0 ≡ min (get_or (layout_of m).counts t 0) most
+  pub told : (counts : List ℕ) → length counts ≡ 45 → ((t : ℕ) → t < 45 → get_or counts t 0 ≡ min (count m t) most_rows)
+      → (t : ℕ) → get_or counts t 0 ≡ min (get_or (layout_of m).counts t 0) most_rows
   told counts long each t =
       elim (cases_lt t 45) [
-        | inl within ↦ each t within ∙ ap (λ n. min n most) (sym (counted t within))
-        | inr far ↦ get_or_past counts t 0 (rw long far) ∙ ap (λ n. min n most) (sym (past t far))
+        | inl within ↦ each t within ∙ ap (λ n. min n most_rows) (sym (counted t within))
+        | inr far ↦ get_or_past counts t 0 (rw long far) ∙ ap (λ n. min n most_rows) (sym (past t far))
       ]
 
   -- no table has too many rows

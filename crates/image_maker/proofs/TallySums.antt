@@ -1,13 +1,11 @@
 -- What is counted of a module.
 use Rattle.std.proofs.Common.{◌≡◌, ℕ, ◌+◌, ◌<◌, ◌&&◌, List, [], ◌∷◌, ◌++◌, length, map, get_or, take, refl, sym, ap, subst, ◌∙◌, arith}
-use Rattle.std.specs.Prelude.{min}
-use Rattle.std.specs.List.{flat_map, list_all, range_with_len, sum_by}
+use Rattle.std.specs.List.{flat_map, list_all, sum_by}
 use Rattle.std.proofs.Math.Bool.{and_assoc}
 use Rattle.std.proofs.lemmas.List.{append-nil, map-append}
 use Rattle.std.proofs.lemmas.List.Concat.{flat_map-append, flat_map_single}
 use Rattle.std.proofs.lemmas.List.Folds.{list_all-append}
-use Rattle.std.proofs.lemmas.List.Sums.{sum_by-append, sum_by-cons, sum_by_push}
-use Rattle.metadata_tables.proofs.LayoutLemmas.{range_next}
+use Rattle.std.proofs.lemmas.List.Sums.{sum_by-append, sum_by-cons}
 use Rattle.assembly_name.specs.declared.version.AssemblyRef.{AssemblyRef}
 use Rattle.cli_words.specs.Text.{bytes_of}
 use Rattle.image_maker.specs.declared.module.Module.{Module}
@@ -19,9 +17,9 @@ use Rattle.image_maker.specs.declared.module.Cell.{Cell}
 use Rattle.image_maker.specs.declared.module.Cell.TheVariants.{Number, Text, Bytes}
 use Rattle.image_maker.specs.declared.tally.Tally.{Tally}
 use Rattle.image_maker.specs.Rows.{all_fields, all_methods}
-use Rattle.image_maker.specs.Sound.{count, all_texts, texts_in, has_no_zero}
-use Rattle.image_maker.specs.Size.{blobs_in, all_blobs, body_size, row_count}
-use Rattle.image_maker.specs.Tally.{Adds, most, is_short, text_size, cell_texts, cell_bytes, method_bytes, module_bytes}
+use Rattle.image_maker.specs.Sound.{all_texts, texts_in, has_no_zero}
+use Rattle.image_maker.specs.Size.{blobs_in, all_blobs, body_size}
+use Rattle.image_maker.specs.Tally.{Adds, is_short, text_size, cell_texts, cell_bytes, method_bytes, module_bytes}
 use Rattle.image_maker.proofs.LengthRows.{blobs_split}
 use Rattle.image_maker.proofs.ListSums.{sum_by-map, sum_by-flat_map, sum_by-add, sum_by-same, flat_map-same, sum_of_none}
 use Rattle.image_maker.proofs.ListSteps.{take_next}

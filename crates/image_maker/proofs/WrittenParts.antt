@@ -8,8 +8,8 @@ use Rattle.metadata_tables.specs.declared.layout.Layout.{Layout}
 use Rattle.image_maker.specs.declared.module.Module.{Module}
 use Rattle.image_maker.specs.declared.writer.Writer.{Writer}
 use Rattle.image_maker.specs.Sound.{count}
-use Rattle.image_maker.specs.Written.{strings_of, blobs_of}
-use Rattle.image_maker.specs.File.{Stream, known_parts, padded, tables_bytes, long, present, bits_of}
+use Rattle.image_maker.specs.Written.{strings_of}
+use Rattle.image_maker.specs.File.{known_parts, padded, tables_bytes, long, present, bits_of}
 use Rattle.image_maker.specs.Whole.{IsReady, cells_in, tables_in, streams_of}
 use Rattle.image_maker.proofs.RangeLemmas.{get_or-map-range}
 
@@ -84,19 +84,13 @@ module _ (m : Module) (writer : Writer) (ready : IsReady m writer) where
       (same_tables (λ t. slice_index writer.layout.counts t) (count m) writer.rows.items count_is
       ∙ ap (tables_bytes (count m)) ready.rows)
 
-  pub same_streams : (rows tables strings user_strings guids blobs : List ℕ) (further : List Stream)
-      → rows ≡ writer.rows.items → tables ≡ tables_with rows → strings ≡ writer.strings.items
-      → user_strings ≡ m.user_strings → guids ≡ m.guids → blobs ≡ writer.blobs.items → further ≡ m.streams
-      → known_parts tables strings user_strings guids blobs ++ further ≡ streams_of m
-  same_streams rows tables strings user_strings guids blobs further r a b c d e f =
-      let parts : List ℕ → List ℕ → List ℕ → List ℕ → List ℕ → List Stream → List Stream =
-      λ ts ss us gs bs xs. known_parts ts ss us gs bs ++ xs in
-      let stream = padded 4 (tables_in m) in
+  pub same_streams : (rows tables : List ℕ) → rows ≡ writer.rows.items → tables ≡ tables_with rows
+      → known_parts tables writer.strings.items m.user_strings m.guids writer.blobs.items ++ m.streams ≡ streams_of m
+  same_streams rows tables r a =
       let texts = padded 4 (strings_of (cells_in m)) in
-      let pieces = padded 4 (blobs_of (cells_in m)) in
-      ap (λ (x : List ℕ). parts x strings user_strings guids blobs further) (a ∙ ap tables_with r ∙ ready_tables)
-      ∙ ap (λ (x : List ℕ). parts stream x user_strings guids blobs further) (b ∙ ready.strings)
-      ∙ ap (λ (x : List ℕ). parts stream texts x guids blobs further) c
-      ∙ ap (λ (x : List ℕ). parts stream texts m.user_strings x blobs further) d
-      ∙ ap (λ (x : List ℕ). parts stream texts m.user_strings m.guids x further) (e ∙ ready.blobs)
-      ∙ ap (λ (x : List Stream). parts stream texts m.user_strings m.guids pieces x) f
+      ap (λ (x : List ℕ). known_parts x writer.strings.items m.user_strings m.guids writer.blobs.items ++ m.streams)
+      (a ∙ ap tables_with r ∙ ready_tables)
+      ∙ ap (λ (x : List ℕ). known_parts (padded 4 (tables_in m)) x m.user_strings m.guids writer.blobs.items
+      ++ m.streams) ready.strings
+      ∙ ap (λ (x : List ℕ). known_parts (padded 4 (tables_in m)) texts m.user_strings m.guids x ++ m.streams)
+      ready.blobs

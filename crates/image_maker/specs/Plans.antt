@@ -1,5 +1,5 @@
 -- The modules that are made of literals (own).
-use Rattle.std.specs.Prelude.{List, ◌∷◌, [], ℕ, map, Some, slice_index}
+use Rattle.std.specs.Prelude.{List, ℕ, map, Some, slice_index}
 use Rattle.assembly_name.specs.declared.version.AssemblyRef.{AssemblyRef}
 use Rattle.assembly_name.specs.declared.version.Version.{Version}
 use Rattle.image_maker.specs.declared.module.Cell as made

@@ -1,4 +1,5 @@
--- What is counted of a module before it is written: rows and bytes, of which no count passes 2^64 - 1 (own).
+-- What is counted of a module before it is written: bytes, of which no count passes 2^64 - 1, and the rows of its tables,
+-- of which none passes 2^32 - 1 (own).
 use Rattle.std.specs.Prelude.{ℕ, ◌+◌, ◌-◌, ◌^◌, ◌≡◌, ◌&&◌, Bool, true, nat_le, min, ◌==◌, List, [], ◌∷◌, length, filter, slice_index}
 use Rattle.std.specs.List.{list_all, sum_by}
 use Rattle.metadata_tables.specs.declared.layout.Layout.{Layout}
@@ -19,9 +20,13 @@ most = 2 ^ 64 - 1
 unfoldable pub layout_of : Module → Layout
 layout_of m = layout_at m 0
 
+-- the greatest count of rows
+abbrev pub most_rows : ℕ
+most_rows = 2 ^ 32 - 1
+
 -- these are the counts of a module's rows
 abbrev pub Tells : List ℕ → Module → Type 0
-Tells counts m = (t : ℕ) → slice_index counts t ≡ min (slice_index (layout_of m).counts t) most
+Tells counts m = (t : ℕ) → slice_index counts t ≡ min (slice_index (layout_of m).counts t) most_rows
 
 -- how many rows of a table a module gives as cells
 abbrev pub given_count : ℕ → List (ℕ × List Cell) → ℕ

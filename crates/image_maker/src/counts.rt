@@ -12,25 +12,15 @@ use metadata_tables::{TABLE_COUNT, table};
 pub(crate) const TABLES: u8 = TABLE_COUNT as u8;
 
 impl Module {
-    /// How many rows each table has, at most `u64::MAX`.
-    pub(crate) fn counts(&self) -> [u64; 45]
-        ensures { Tells result self.now }
+    /// How many rows each table has, at most `u32::MAX`.
+    pub(crate) fn counts(&self) -> [u32; 45]
+        ensures tells { Tells result self.now }
+        ensures all { long_table self.now ≡ None
+            → result ≡ map (count self.now) (range_with_len 0 45) }
     {
         let mut counts = [0; 45];
         for table in 0..TABLES {
-            counts[usize::from(table)] = self.count(table);
-        }
-        counts
-    }
-
-    /// How many rows each table of a module has, none of which has too many.
-    pub(crate) fn row_counts(&self) -> [u32; 45]
-        requires { long_table self.now ≡ None }
-        ensures { result ≡ map (count self.now) (range_with_len 0 45) }
-    {
-        let mut counts = [0; 45];
-        for table in 0..TABLES {
-            counts[usize::from(table)] = self.count(table) as u32;
+            counts[usize::from(table)] = self.count(table).min(u64::from(u32::MAX)) as u32;
         }
         counts
     }

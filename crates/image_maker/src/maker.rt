@@ -1,5 +1,5 @@
 //! Making an image of a module.
-ghost use Rattle.std.specs.Prelude.{◌≡◌, ℕ, None, Some, Err, IfOk, true};
+ghost use Rattle.std.specs.Prelude.{◌≡◌, ℕ, ◌++◌, map, None, Some, Err, IfOk, true};
 ghost use Rattle.std.specs.List.{list_all};
 ghost use Rattle.image_maker.specs.declared.fault.MakeFault.TheVariants.{Limit};
 ghost use Rattle.image_maker.specs.Sound.{is_sound};
@@ -7,12 +7,14 @@ ghost use Rattle.image_maker.specs.Size.{limit_of};
 ghost use Rattle.image_maker.specs.Written.{is_kept};
 ghost use Rattle.image_maker.specs.Whole.{IsReady, cells_in, image_bytes};
 ghost use Rattle.image_maker.specs.Made.{IsMade};
+ghost use Rattle.image_maker.specs.File.{known_parts};
+ghost use Rattle.image_maker.specs.Headers.{part_of};
 
 use crate::fault::MakeFault;
 use crate::file::write_file;
 use crate::module::Module;
 use crate::rows::write_rows;
-use crate::streams::{pad, write_root, write_tables};
+use crate::streams::{Part, all_parts, pad, write_root, write_tables};
 use crate::writer::Writer;
 use metadata_tables::Layout;
 use std::alloc::{AllocError, Global};
@@ -49,7 +51,7 @@ fn write_image(alloc: Global, source: &Module) -> Result<Vec<u8>, AllocError>
     let layout = Layout {
         rows_at: 0,
         heap_sizes: HEAP_SIZES,
-        counts: source.row_counts(),
+        counts: source.counts(),
     };
     let mut written = write_rows(alloc, source, layout);
     if written.failed {
@@ -68,14 +70,28 @@ fn write_parts(alloc: Global, source: &Module, written: &Writer) -> Result<Vec<u
     ensures { IfOk result (λ image. image.items ≡ image_bytes source.now) }
 {
     let tables = write_tables(alloc, &written.layout.counts, &written.rows)?;
-    let root = write_root(
-        alloc,
-        &tables,
-        &written.strings,
-        source.user_strings.items(),
-        source.guids.items(),
-        &written.blobs,
-        source.streams.items(),
-    )?;
+    let parts = parts_of(alloc, source, written, &tables)?;
+    let root = write_root(alloc, &parts)?;
     write_file(alloc, &written.bodies, &root)
+}
+
+// The streams of the image, whose stream of tables is written.
+fn parts_of<'a>(
+    alloc: Global,
+    source: &'a Module,
+    written: &'a Writer,
+    tables: &'a [u8],
+) -> Result<Vec<Part<'a>>, AllocError>
+    ensures { IfOk result (λ parts. map part_of parts.items ≡ known_parts tables.now
+        written.now.strings.items source.now.user_strings source.now.guids
+        written.now.blobs.items ++ source.now.streams) }
+{
+    let known = [
+        Part(b"#~", tables),
+        Part(b"#Strings", &written.strings),
+        Part(b"#US", source.user_strings.items()),
+        Part(b"#GUID", source.guids.items()),
+        Part(b"#Blob", &written.blobs),
+    ];
+    all_parts(alloc, &known, source.streams.items())
 }

@@ -24,11 +24,9 @@ pub(crate) struct Plan {
 }
 
 /// A reference: a name, which is ASCII, and a version.
-#[derive(Clone, Copy)]
 pub(crate) struct Ref(pub(crate) &'static str, pub(crate) [u16; 4]);
 
 /// A type of another module: its scope, its namespace and its name.
-#[derive(Clone, Copy)]
 pub(crate) struct TypeRef(
     pub(crate) u32,
     pub(crate) &'static str,
@@ -36,7 +34,6 @@ pub(crate) struct TypeRef(
 );
 
 /// A type without flags: its namespace, its name, its parent, its fields and its methods.
-#[derive(Clone, Copy)]
 pub(crate) struct Class(
     pub(crate) &'static str,
     pub(crate) &'static str,
@@ -46,11 +43,9 @@ pub(crate) struct Class(
 );
 
 /// A static field: its name and its signature.
-#[derive(Clone, Copy)]
 pub(crate) struct Field(pub(crate) &'static str, pub(crate) &'static [u8]);
 
 /// A static method: how many rows of Param it has, its name, its signature and its body.
-#[derive(Clone, Copy)]
 pub(crate) struct Method(
     pub(crate) u32,
     pub(crate) &'static str,
@@ -59,7 +54,6 @@ pub(crate) struct Method(
 );
 
 /// A member of another type: its parent, its name and its signature.
-#[derive(Clone, Copy)]
 pub(crate) struct Member(
     pub(crate) u32,
     pub(crate) &'static str,
@@ -67,10 +61,8 @@ pub(crate) struct Member(
 );
 
 /// A row of a table.
-#[derive(Clone, Copy)]
 pub(crate) struct Row(pub(crate) u8, pub(crate) &'static [Cell]);
 
-#[derive(Clone, Copy)]
 pub(crate) enum Cell {
     Number(u32),
     Text(&'static str),
@@ -78,7 +70,6 @@ pub(crate) enum Cell {
 }
 
 /// A further stream: its name and its bytes.
-#[derive(Clone, Copy)]
 pub(crate) struct Stream(pub(crate) &'static str, pub(crate) &'static [u8]);
 
 /// The flag of a static field or method. ECMA-335 II.23.1.5, II.23.1.10.
@@ -88,7 +79,7 @@ const STATIC: u16 = 0x10;
 const GUID: &[u8] = b"GaddrefI\x8C\x01\x02\x03\x04\x05\x06\x07";
 
 /// What a part of a module is made of.
-trait Literal {
+pub(crate) trait Literal {
     type Part: Drop;
 
     ghost part: { Self → Self.Part };

@@ -111,29 +111,14 @@ const LIB1: Plan = Plan {
 const GET_TWO: &[Method] = &[Method(0, "Get", TO_INT, b"\x0A\x18\x2A")];
 
 const LIB2: Plan = Plan {
-    name: "Lib",
     version: [2, 0, 0, 0],
-    refs: &[RUNTIME],
-    type_refs: &[SYSTEM_OBJECT],
     types: &[NOWHERE, Class("Lib", "C", OBJECT, &[], GET_TWO)],
-    members: &[],
-    specs: &[],
-    user_strings: &[0],
-    rows: &[],
-    streams: &[],
+    ..LIB1
 };
 
 const LIB19: Plan = Plan {
-    name: "Lib",
     version: [1, 9, 9, 9],
-    refs: &[RUNTIME],
-    type_refs: &[SYSTEM_OBJECT],
-    types: &[NOWHERE, Class("Lib", "C", OBJECT, &[], GET_ONE)],
-    members: &[],
-    specs: &[],
-    user_strings: &[0],
-    rows: &[],
-    streams: &[],
+    ..LIB1
 };
 
 const USE_METHODS: &[Method] = &[Method(0, "Run", TO_INT, b"\x1A\x28\x01\0\0\x0A\x2A")];
@@ -141,15 +126,11 @@ const USE_METHODS: &[Method] = &[Method(0, "Run", TO_INT, b"\x1A\x28\x01\0\0\x0A
 /// What calls a method of another assembly.
 const USE: Plan = Plan {
     name: "Use",
-    version: FIRST,
     refs: &[RUNTIME, Ref("Lib", FIRST)],
     type_refs: &[SYSTEM_OBJECT, TypeRef(IN_SECOND, "Lib", "C")],
     types: &[NOWHERE, Class("Use", "P", OBJECT, &[], USE_METHODS)],
     members: &[Member(17, "Get", TO_INT)],
-    specs: &[],
-    user_strings: &[0],
-    rows: &[],
-    streams: &[],
+    ..LIB1
 };
 
 const GEN_METHODS: &[Method] = &[Method(0, "Run", TO_INT, b"\x1A\x7E\x01\0\0\x0A\x2A")];
@@ -157,9 +138,6 @@ const GEN_METHODS: &[Method] = &[Method(0, "Run", TO_INT, b"\x1A\x7E\x01\0\0\x0A
 /// A generic type, and a method that reads a field of one of its instantiations.
 const GEN: Plan = Plan {
     name: "Gen",
-    version: FIRST,
-    refs: &[RUNTIME, Ref("Lib", FIRST)],
-    type_refs: &[SYSTEM_OBJECT, TypeRef(IN_SECOND, "Lib", "C")],
     types: &[
         NOWHERE,
         Class("Gen", "Pair`2", OBJECT, &[Field("n", INT_FIELD)], &[]),
@@ -167,40 +145,33 @@ const GEN: Plan = Plan {
     ],
     members: &[Member(12, "n", INT_FIELD)],
     specs: &[b"\x15\x12\x08\x02\x12\x0C\x12\x09"],
-    user_strings: &[0],
-    rows: &[
-        Row(
-            table::GENERIC_PARAM,
-            &[Number(0), Number(0), Number(4), Text("T")],
-        ),
-        Row(
-            table::GENERIC_PARAM,
-            &[Number(1), Number(0), Number(4), Text("U")],
-        ),
-    ],
-    streams: &[],
+    rows: GEN_ROWS,
+    ..USE
 };
+
+const GEN_ROWS: &[Row] = &[
+    Row(
+        table::GENERIC_PARAM,
+        &[Number(0), Number(0), Number(4), Text("T")],
+    ),
+    Row(
+        table::GENERIC_PARAM,
+        &[Number(1), Number(0), Number(4), Text("U")],
+    ),
+];
 
 const DEEP_METHODS: &[Method] = &[Method(0, "M", TO_NONE, b"\x06\x2A")];
 
 /// A type that extends itself.
 const DEEP: Plan = Plan {
     name: "Deep",
-    version: FIRST,
-    refs: &[RUNTIME],
-    type_refs: &[SYSTEM_OBJECT],
     types: &[NOWHERE, Class("Deep", "E", SECOND_TYPE, &[], DEEP_METHODS)],
-    members: &[],
-    specs: &[],
-    user_strings: &[0],
-    rows: &[],
-    streams: &[],
+    ..LIB1
 };
 
 /// A type with many small methods.
 const OPS: Plan = Plan {
     name: "Ops",
-    version: FIRST,
     refs: &[RUNTIME, Ref("System.Console", EIGHTH)],
     type_refs: &[
         SYSTEM_OBJECT,
@@ -209,55 +180,37 @@ const OPS: Plan = Plan {
     ],
     types: &[NOWHERE, Class("Ops", "M", OBJECT, OPS_FIELDS, OPS_METHODS)],
     members: &[Member(25, "WriteLine", STRING_TO_NONE)],
-    specs: &[],
     user_strings: b"\0\x05h\0i\0\0",
-    rows: &[],
-    streams: &[],
+    ..LIB1
 };
 
 const OPS_FIELDS: &[Field] = &[Field("n", INT_FIELD), Field("s", b"\x06\x0E")];
+
+// Bodies of its longer methods.
+
+const SPIN3: &[u8] = b"\x32\0\0\0\x02\x17\x59\x10\0\x02\x2D\xF8\x2A";
+
+const SPIN4: &[u8] = b"\x36\0\0\0\0\x02\x17\x59\x10\0\x02\x2D\xF8\x2A";
+
+const LOOP: &[u8] = b"\x3E\x7E\x01\0\0\x04\x26\x02\x17\x59\x10\0\x02\x2D\xF2\x2A";
+
+const REC: &[u8] = b"\x32\x02\x2C\x08\x02\x17\x59\x28\x08\0\0\x06\x2A";
+
+const ARR: &[u8] = b"\x26\x02\x8D\x02\0\0\x01\x8E\x69\x2A";
+
+const SAY: &[u8] = b"\x2E\x72\x01\0\0\x70\x28\x01\0\0\x0A\x2A";
 
 const OPS_METHODS: &[Method] = &[
     Method(0, "Div", INTS_TO_INT, b"\x12\x02\x03\x5B\x2A"),
     Method(0, "AddOvf", INTS_TO_INT, b"\x12\x02\x03\xD6\x2A"),
     Method(0, "Shl", INTS_TO_INT, b"\x12\x02\x03\x62\x2A"),
-    Method(
-        0,
-        "Spin3",
-        INT_TO_NONE,
-        b"\x32\0\0\0\x02\x17\x59\x10\0\x02\x2D\xF8\x2A",
-    ),
-    Method(
-        0,
-        "Spin4",
-        INT_TO_NONE,
-        b"\x36\0\0\0\0\x02\x17\x59\x10\0\x02\x2D\xF8\x2A",
-    ),
+    Method(0, "Spin3", INT_TO_NONE, SPIN3),
+    Method(0, "Spin4", INT_TO_NONE, SPIN4),
     Method(0, "Bad", TO_INT, b"\x1A\x17\x17\x2D\x01\x18\x2A"),
-    Method(
-        0,
-        "Loop",
-        INT_TO_NONE,
-        b"\x3E\x7E\x01\0\0\x04\x26\x02\x17\x59\x10\0\x02\x2D\xF2\x2A",
-    ),
-    Method(
-        0,
-        "Rec",
-        INT_TO_NONE,
-        b"\x32\x02\x2C\x08\x02\x17\x59\x28\x08\0\0\x06\x2A",
-    ),
-    Method(
-        0,
-        "Arr",
-        INT_TO_INT,
-        b"\x26\x02\x8D\x02\0\0\x01\x8E\x69\x2A",
-    ),
-    Method(
-        0,
-        "Say",
-        TO_NONE,
-        b"\x2E\x72\x01\0\0\x70\x28\x01\0\0\x0A\x2A",
-    ),
+    Method(0, "Loop", INT_TO_NONE, LOOP),
+    Method(0, "Rec", INT_TO_NONE, REC),
+    Method(0, "Arr", INT_TO_INT, ARR),
+    Method(0, "Say", TO_NONE, SAY),
     Method(0, "Half", TO_FLOAT, b"\x1A\x22\0\0\0\0\x2A"),
     Method(0, "Keep", STRING_TO_NONE, b"\x1E\x02\x80\x02\0\0\x04\x2A"),
     Method(0, "Put", INT_TO_NONE, b"\x1E\x02\x80\x01\0\0\x04\x2A"),
@@ -268,7 +221,6 @@ const OPS_METHODS: &[Method] = &[
 const REL: Plan = Plan {
     name: "Plugin",
     version: [1, 2, 0, 0],
-    refs: &[RUNTIME],
     type_refs: &[
         SYSTEM_OBJECT,
         TypeRef(
@@ -279,10 +231,9 @@ const REL: Plan = Plan {
     ],
     types: &[NOWHERE, Class("Plugin", "Entry", OBJECT, &[], REL_METHODS)],
     members: &[Member(17, ".ctor", b"\x20\0\x01")],
-    specs: &[],
-    user_strings: &[0],
     rows: REL_ROWS,
     streams: &[Stream("#Own", b"\x01\x02\x03")],
+    ..LIB1
 };
 
 const REL_METHODS: &[Method] = &[

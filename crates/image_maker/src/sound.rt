@@ -44,26 +44,20 @@ impl Module {
         let has_no_zero = self.tally().has_no_zero;
         let are_whole = are_whole(self.refs.items());
         let are_streams = are_stream_names(self.streams.items());
-        are_all(&[
-            has_name,
-            has_type,
-            are_rising,
-            are_fitting,
-            are_tables_sound,
-            has_no_zero,
-            are_whole,
-            are_streams,
-        ])
+        let has_parts = has_name & has_type;
+        let are_given = are_rising & are_fitting;
+        let are_named = has_no_zero & are_whole & are_streams;
+        has_parts & are_given & are_tables_sound & are_named
     }
 
-    fn are_tables_sound(&self, counts: &[u64; 45]) -> bool
+    fn are_tables_sound(&self, counts: &[u32; 45]) -> bool
         requires { Tells counts.now self.now }
         ensures { result ≡ list_all (spec.is_table_sound self.now) (range_with_len 0 45) }
     {
         (0..TABLES).all(|table| self.is_table_sound(counts, table))
     }
 
-    fn is_table_sound(&self, counts: &[u64; 45], table: u8) -> bool
+    fn is_table_sound(&self, counts: &[u32; 45], table: u8) -> bool
         requires { Tells counts.now self.now }
         ensures { result ≡ spec.is_table_sound self.now table }
     {
@@ -78,7 +72,7 @@ impl Module {
         }
     }
 
-    fn are_scopes_sound(&self, counts: &[u64; 45]) -> bool
+    fn are_scopes_sound(&self, counts: &[u32; 45]) -> bool
         requires { Tells counts.now self.now }
         ensures { result ≡ list_all (λ r. checks.has_target (layout_of self.now)
             (target_of ResolutionScope r.scope)) self.now.type_refs }
@@ -87,7 +81,7 @@ impl Module {
         scopes.iter().all(|row| self.has_target(counts, CodedIndex::ResolutionScope, row.scope))
     }
 
-    fn are_parents_sound(&self, counts: &[u64; 45]) -> bool
+    fn are_parents_sound(&self, counts: &[u32; 45]) -> bool
         requires { Tells counts.now self.now }
         ensures { result ≡ list_all (λ r. checks.has_target (layout_of self.now)
             (target_of TypeDefOrRef r.parent)) self.now.types }
@@ -96,7 +90,7 @@ impl Module {
         types.iter().all(|row| self.has_target(counts, CodedIndex::TypeDefOrRef, row.parent))
     }
 
-    fn are_classes_sound(&self, counts: &[u64; 45]) -> bool
+    fn are_classes_sound(&self, counts: &[u32; 45]) -> bool
         requires { Tells counts.now self.now }
         ensures { result ≡ list_all (λ r. checks.has_target (layout_of self.now)
             (target_of MemberRefParent r.class)) self.now.members }
@@ -105,12 +99,12 @@ impl Module {
         members.iter().all(|row| self.has_target(counts, CodedIndex::MemberRefParent, row.class))
     }
 
-    fn has_target(&self, counts: &[u64; 45], index: CodedIndex, value: u32) -> bool
+    fn has_target(&self, counts: &[u32; 45], index: CodedIndex, value: u32) -> bool
         requires { Tells counts.now self.now }
         ensures { result ≡ checks.has_target (layout_of self.now) (target_of index value) }
     {
         match index.target(value) {
-            Some((table, row)) => u64::from(row) <= count_in(counts, table),
+            Some((table, row)) => row <= count_in(counts, table),
             None => false,
         }
     }
@@ -121,7 +115,7 @@ impl Module {
         are_types_within(Some(self.given_count(table::PARAM)), self.types.items())
     }
 
-    fn are_given_sound(&self, counts: &[u64; 45], table: u8) -> bool
+    fn are_given_sound(&self, counts: &[u32; 45], table: u8) -> bool
         requires { Tells counts.now self.now }
         ensures { result ≡ spec.are_rows_sound (layout_of self.now) (length self.now.guids) table
             [] (given_rows table self.now.rows) }
@@ -139,7 +133,7 @@ impl Module {
         true
     }
 
-    fn is_row_sound(&self, counts: &[u64; 45], table: u8, before: &[Cell], row: &[Cell]) -> bool
+    fn is_row_sound(&self, counts: &[u32; 45], table: u8, before: &[Cell], row: &[Cell]) -> bool
         requires { Tells counts.now self.now }
         ensures { result ≡ spec.is_row_sound (layout_of self.now) (length self.now.guids) table
             before.now row.now }
@@ -150,7 +144,7 @@ impl Module {
 
     fn are_cells_sound(
         &self,
-        counts: &[u64; 45],
+        counts: &[u32; 45],
         columns: &[Column],
         before: &[Cell],
         row: &[Cell],
@@ -169,7 +163,7 @@ impl Module {
         true
     }
 
-    fn is_cell_sound(&self, counts: &[u64; 45], column: Column, before: u32, cell: &Cell) -> bool
+    fn is_cell_sound(&self, counts: &[u32; 45], column: Column, before: u32, cell: &Cell) -> bool
         requires { Tells counts.now self.now }
         ensures { result ≡ spec.is_value_sound (layout_of self.now) (length self.now.guids) column
             before cell.now }
@@ -183,7 +177,7 @@ impl Module {
         }
     }
 
-    fn is_inside(&self, counts: &[u64; 45], column: Column, value: u32) -> bool
+    fn is_inside(&self, counts: &[u32; 45], column: Column, value: u32) -> bool
         requires { Tells counts.now self.now }
         ensures { result ≡ checks.is_inside [] (spec.heaps_with (length self.now.guids))
             (layout_of self.now) column value }
@@ -193,34 +187,28 @@ impl Module {
             Column::Strings => false,
             Column::Blob => value == 0,
             Column::Guid => GUID_LEN * u64::from(value) <= self.guids.items().len() as u64,
-            Column::Table(table) => u64::from(value) <= count_in(counts, table),
+            Column::Table(table) => value <= count_in(counts, table),
             Column::Coded(index) => self.has_target(counts, index, value),
         }
     }
 }
 
-fn are_all(checks: &[bool]) -> bool
-    ensures { result ≡ list_all (λ check. check) checks.now }
-{
-    checks.iter().all(|check| *check)
-}
-
 /// A list begins at a row of its table or right after the last, and not before the list of the row
 /// before.
-fn is_in_order(counts: &[u64; 45], column: Column, before: u32, value: u32) -> bool
+fn is_in_order(counts: &[u32; 45], column: Column, before: u32, value: u32) -> bool
     ensures { (m : Module) → Tells counts.now m
         → result ≡ checks.is_in_order (layout_of m) column before value }
 {
     match column {
         Column::List(table) => {
-            let is_near = u64::from(value) <= count_in(counts, table).saturating_add(1);
+            let is_near = value <= count_in(counts, table).saturating_add(1);
             1 <= value && is_near && before <= value
         }
         _ => true,
     }
 }
 
-fn count_in(counts: &[u64; 45], table: u8) -> u64
+fn count_in(counts: &[u32; 45], table: u8) -> u32
     ensures { result ≡ slice_index counts.now table }
 {
     counts.get(usize::from(table)).copied().unwrap_or(0)

@@ -1,9 +1,10 @@
 //! The metadata root with its streams, and the stream of tables.
-ghost use Rattle.std.specs.Prelude.{◌≡◌, ℕ, ◌+◌, ◌-◌, ◌<◌, ◌^◌, List, [], ◌∷◌, ◌++◌, length};
+ghost use Rattle.std.specs.Prelude.{◌≡◌, ℕ, ◌+◌, ◌-◌, ◌<◌, ◌^◌, List, [], ◌∷◌, ◌++◌, length, map};
 ghost use Rattle.std.specs.Prelude.{OnOk, IfOk, slice_index, nat_lt, if◌then◌else◌};
 ghost use Rattle.std.specs.List.{sum_by, flat_map};
 ghost use Rattle.image_maker.specs.File.{zeros, round_up, padded, stream_header, stream_headers};
-ghost use Rattle.image_maker.specs.File.{headers_len, root_bytes, known_parts, long};
+ghost use Rattle.image_maker.specs.File.{headers_len, root_bytes, long};
+ghost use Rattle.image_maker.specs.Headers.{part_of};
 ghost use Rattle.image_maker.specs.File.{tables_bytes, present, bits_of};
 
 use cli_words::{Listed, Utf8Text};
@@ -13,11 +14,8 @@ use std::alloc::{AllocError, Global};
 // length of the reader's version, that version, and the flags. ECMA-335 II.24.2.1.
 const FRONT: &[u8] = b"BSJB\x01\0\x01\0\0\0\0\0\x0C\0\0\0v4.0.30319\0\0\0\0";
 
-// How many streams each root has, and where the first stream of a root stands that has no further
-// one: after the front, the count of two bytes, and the headers.
-const KNOWN: usize = 5;
-
-const KNOWN_END: usize = 108;
+// Where the headers of streams begin in a root: after the front and the count of two bytes.
+const HEADERS_AT: usize = 32;
 
 // The stream of tables up to the bits of its tables: four reserved bytes, version 2.0, the bits
 // that say that indexes into all heaps have four bytes, and a reserved one. ECMA-335 II.24.2.6.
@@ -26,40 +24,37 @@ const HEAD: [u8; 8] = [0, 0, 0, 0, 2, 0, 7, 1];
 // The bits of the tables that are said to be sorted: none.
 const SORTED: u64 = 0;
 
-/// Writes the metadata root with the five streams that a reader knows, and further ones.
-pub(crate) fn write_root(
+/// A stream that is written: its name and its bytes.
+#[derive(Clone, Copy)]
+pub(crate) struct Part<'a>(pub(crate) &'a [u8], pub(crate) &'a [u8]);
+
+/// Streams, and further ones after them.
+pub(crate) fn all_parts<'a>(
     alloc: Global,
-    tables: &[u8],
-    strings: &[u8],
-    user_strings: &[u8],
-    guids: &[u8],
-    blobs: &[u8],
-    further: &[(Utf8Text, Listed<u8>)],
-) -> Result<Vec<u8>, AllocError>
-    requires few { length (known_parts tables.now strings.now user_strings.now guids.now blobs.now
-        ++ further.now) < 2 ^ 16 }
-    requires short { length (root_bytes (known_parts tables.now strings.now user_strings.now
-        guids.now blobs.now ++ further.now)) < 2 ^ 31 }
-    ensures { IfOk result (λ root. root.items ≡ root_bytes (known_parts tables.now strings.now
-        user_strings.now guids.now blobs.now ++ further.now)) }
+    known: &[Part<'a>],
+    further: &'a [(Utf8Text, Listed<u8>)],
+) -> Result<Vec<Part<'a>>, AllocError>
+    ensures { IfOk result (λ all. map part_of all.items ≡ map part_of known.now ++ further.now) }
 {
-    let count = (KNOWN + further.len()) as u16;
-    let first = KNOWN_END + headers_len_of(further);
+    let mut all = known.to_vec(alloc)?;
+    for stream in further {
+        all.push(Part(stream.0.as_str().as_bytes(), stream.1.items()))?;
+    }
+    Ok(all)
+}
+
+/// Writes the metadata root with its streams.
+pub(crate) fn write_root(alloc: Global, parts: &[Part<'_>]) -> Result<Vec<u8>, AllocError>
+    requires few { length parts.now < 2 ^ 16 }
+    requires short { length (root_bytes (map part_of parts.now)) < 2 ^ 31 }
+    ensures { IfOk result (λ root. root.items ≡ root_bytes (map part_of parts.now)) }
+{
+    let count = parts.len() as u16;
     let mut root = Vec::new(alloc);
     root.extend_from_slice(FRONT)?;
     root.extend_from_slice(&count.to_le_bytes())?;
-    let next = put_known_headers(
-        &mut root,
-        first,
-        tables,
-        strings,
-        user_strings,
-        guids,
-        blobs,
-    )?;
-    put_headers(&mut root, next, further)?;
-    put_known_streams(&mut root, tables, strings, user_strings, guids, blobs)?;
-    put_streams(&mut root, further)?;
+    put_headers(&mut root, HEADERS_AT + headers_len_of(parts), parts)?;
+    put_streams(&mut root, parts)?;
     Ok(root)
 }
 
@@ -125,49 +120,6 @@ fn put_count(out: &mut Vec<u8>, count: u32) -> Result<(), AllocError>
     Ok(())
 }
 
-// Puts the headers of the streams that a reader knows, and gives the place after these streams.
-fn put_known_headers(
-    out: &mut Vec<u8>,
-    first: usize,
-    tables: &[u8],
-    strings: &[u8],
-    user_strings: &[u8],
-    guids: &[u8],
-    blobs: &[u8],
-) -> Result<usize, AllocError>
-    requires { first + sum_by (λ s. round_up 4 (length s.1)) (known_parts tables.now strings.now
-        user_strings.now guids.now blobs.now) < 2 ^ 31 }
-    ensures next { IfOk result (λ next. next ≡ first + sum_by (λ s. round_up 4 (length s.1))
-        (known_parts tables.now strings.now user_strings.now guids.now blobs.now)) }
-    ensures headers { OnOk result (out.new.items ≡ out.old.items ++ stream_headers first
-        (known_parts tables.now strings.now user_strings.now guids.now blobs.now)) }
-{
-    let next = put_header(out, first, b"#~", tables)?;
-    let next = put_header(out, next, b"#Strings", strings)?;
-    let next = put_header(out, next, b"#US", user_strings)?;
-    let next = put_header(out, next, b"#GUID", guids)?;
-    put_header(out, next, b"#Blob", blobs)
-}
-
-// Puts the streams that a reader knows.
-fn put_known_streams(
-    out: &mut Vec<u8>,
-    tables: &[u8],
-    strings: &[u8],
-    user_strings: &[u8],
-    guids: &[u8],
-    blobs: &[u8],
-) -> Result<(), AllocError>
-    ensures { OnOk result (out.new.items ≡ out.old.items ++ flat_map (λ s. padded 4 s.1)
-        (known_parts tables.now strings.now user_strings.now guids.now blobs.now)) }
-{
-    put_padded(out, tables)?;
-    put_padded(out, strings)?;
-    put_padded(out, user_strings)?;
-    put_padded(out, guids)?;
-    put_padded(out, blobs)
-}
-
 // The least multiple of four that is not below a length.
 fn round_up_four(len: usize) -> usize
     requires { len < 2 ^ 32 }
@@ -201,22 +153,17 @@ fn put_padding(out: &mut Vec<u8>, len: usize) -> Result<(), AllocError>
 }
 
 // Puts the header of a stream that begins at a place, and gives the place of the next stream.
-fn put_header(
-    out: &mut Vec<u8>,
-    place: usize,
-    name: &[u8],
-    bytes: &[u8],
-) -> Result<usize, AllocError>
-    requires name { length name.now < 2 ^ 31 }
-    requires place { place + length bytes.now < 2 ^ 31 }
-    ensures next { IfOk result (λ next. next ≡ place + round_up 4 (length bytes.now)) }
+fn put_header(out: &mut Vec<u8>, place: usize, part: Part<'_>) -> Result<usize, AllocError>
+    requires name { length part.0.now < 2 ^ 31 }
+    requires place { place + length part.1.now < 2 ^ 31 }
+    ensures next { IfOk result (λ next. next ≡ place + round_up 4 (length part.entry.1.now)) }
     ensures header { OnOk result
-        (out.new.items ≡ out.old.items ++ stream_header place (name.now, bytes.now)) }
+        (out.new.items ≡ out.old.items ++ stream_header place (part_of part.entry)) }
 {
     out.extend_from_slice(&(place as u32).to_le_bytes())?;
-    out.extend_from_slice(&(bytes.len() as u32).to_le_bytes())?;
-    put_name(out, name)?;
-    Ok(place + round_up_four(bytes.len()))
+    out.extend_from_slice(&(part.1.len() as u32).to_le_bytes())?;
+    put_name(out, part.0)?;
+    Ok(place + round_up_four(part.1.len()))
 }
 
 // Puts the name of a stream, one to four zeros after it.
@@ -238,41 +185,39 @@ fn header_len(name: &[u8]) -> usize
 }
 
 // How many bytes the headers of streams take.
-fn headers_len_of(streams: &[(Utf8Text, Listed<u8>)]) -> usize
-    requires { headers_len streams.now < 2 ^ 31 }
-    ensures { result ≡ headers_len streams.now }
+fn headers_len_of(parts: &[Part<'_>]) -> usize
+    requires { headers_len (map part_of parts.now) < 2 ^ 31 }
+    ensures { result ≡ headers_len (map part_of parts.now) }
 {
     let mut len = 0;
-    for stream in streams {
-        len += header_len(stream.0.as_str().as_bytes());
+    for part in parts {
+        len += header_len(part.0);
     }
     len
 }
 
 // Puts the headers of streams, the first of which begins at a place.
-fn put_headers(
-    out: &mut Vec<u8>,
-    first: usize,
-    streams: &[(Utf8Text, Listed<u8>)],
-) -> Result<(), AllocError>
-    requires names { headers_len streams.now < 2 ^ 31 }
-    requires places { first + sum_by (λ s. round_up 4 (length s.1)) streams.now < 2 ^ 31 }
-    ensures { OnOk result (out.new.items ≡ out.old.items ++ stream_headers first streams.now) }
+fn put_headers(out: &mut Vec<u8>, first: usize, parts: &[Part<'_>]) -> Result<(), AllocError>
+    requires names { headers_len (map part_of parts.now) < 2 ^ 31 }
+    requires places { first + sum_by (λ s. round_up 4 (length s.1)) (map part_of parts.now)
+        < 2 ^ 31 }
+    ensures { OnOk result
+        (out.new.items ≡ out.old.items ++ stream_headers first (map part_of parts.now)) }
 {
     let mut place = first;
-    for stream in streams {
-        place = put_header(out, place, stream.0.as_str().as_bytes(), stream.1.items())?;
+    for part in parts {
+        place = put_header(out, place, *part)?;
     }
     Ok(())
 }
 
 // Puts streams.
-fn put_streams(out: &mut Vec<u8>, streams: &[(Utf8Text, Listed<u8>)]) -> Result<(), AllocError>
-    ensures { OnOk result
-        (out.new.items ≡ out.old.items ++ flat_map (λ s. padded 4 s.1) streams.now) }
+fn put_streams(out: &mut Vec<u8>, parts: &[Part<'_>]) -> Result<(), AllocError>
+    ensures { OnOk result (out.new.items
+        ≡ out.old.items ++ flat_map (λ s. padded 4 s.1) (map part_of parts.now)) }
 {
-    for stream in streams {
-        put_padded(out, stream.1.items())?;
+    for part in parts {
+        put_padded(out, part.1)?;
     }
     Ok(())
 }

@@ -1,62 +1,30 @@
-use crate::{Cell, FieldRow, MakeFault, Module, SampleName, TypeRefRow, TypeRow, make, sample};
+use crate::plans::Cell::{Number, Text};
+use crate::plans::{Class, Field, Literal, Row, TypeRef};
+use crate::{MakeFault, Module, SampleName, TypeRow, make, sample};
 use cli_words::{Listed, Utf8Text};
 use metadata_tables::table;
 use std::alloc::{AllocError, Global};
 use std::process::Abort;
 use std::test::Fail;
 
-fn text(alloc: Global, text: &str) -> Result<Utf8Text, AllocError> {
-    Ok(Utf8Text::of(String::from_str(alloc, text)?))
-}
+const PARAM: Row = Row(table::PARAM, &[Number(0), Number(0), Text("p")]);
 
-fn bytes(alloc: Global, bytes: &[u8]) -> Result<Listed<u8>, AllocError> {
-    Ok(Listed::of(bytes.to_vec(alloc)?))
-}
-
-fn type_refs(alloc: Global, count: u32) -> Result<Listed<TypeRefRow>, AllocError> {
-    let mut rows = Vec::new(alloc);
+/// So many of what a literal stands for.
+fn repeated<T: Literal>(
+    alloc: Global,
+    item: &T,
+    count: u32,
+) -> Result<Listed<T::Part>, AllocError> {
+    let mut made = Vec::new(alloc);
     for _ in 0..count {
-        rows.push(TypeRefRow {
-            scope: 0,
-            name: text(alloc, "R")?,
-            space: text(alloc, "")?,
-        })?;
+        made.push(item.make(alloc)?)?;
     }
-    Ok(Listed::of(rows))
+    Ok(Listed::of(made))
 }
 
-fn fields(alloc: Global, count: u32) -> Result<Listed<FieldRow>, AllocError> {
-    let mut rows = Vec::new(alloc);
-    for _ in 0..count {
-        rows.push(FieldRow {
-            flags: 0x10,
-            name: text(alloc, "f")?,
-            sig: bytes(alloc, &[0x06, 0x08])?,
-        })?;
-    }
-    Ok(Listed::of(rows))
-}
-
-/// A type with so many fields.
-fn owner(alloc: Global, count: u32) -> Result<TypeRow, AllocError> {
-    Ok(TypeRow {
-        flags: 0,
-        name: text(alloc, "T")?,
-        space: text(alloc, "")?,
-        parent: 0,
-        fields: fields(alloc, count)?,
-        methods: Listed::of(Vec::new(alloc)),
-    })
-}
-
-fn params(alloc: Global, count: u32) -> Result<Listed<(u8, Listed<Cell>)>, AllocError> {
-    let mut rows = Vec::new(alloc);
-    for _ in 0..count {
-        let name = Cell::Text(text(alloc, "p")?);
-        let cells = vec![in alloc; Cell::Number(0), Cell::Number(0), name]?;
-        rows.push((table::PARAM, Listed::of(cells)))?;
-    }
-    Ok(Listed::of(rows))
+/// A sound module.
+fn base(alloc: Global) -> Result<Module, AllocError> {
+    sample(alloc, SampleName::Lib1)
 }
 
 /// A module with so many rows of TypeRef, Field and Param, and a name and a heap of user strings
@@ -67,13 +35,22 @@ fn grown(
     name: usize,
     user_strings: usize,
 ) -> Result<Module, AllocError> {
-    let mut source = sample(alloc, SampleName::Lib1)?;
-    source.type_refs = type_refs(alloc, rows[0])?;
-    source.types = Listed::of(vec![in alloc; owner(alloc, rows[1])?]?);
-    source.rows = params(alloc, rows[2])?;
-    source.name = Utf8Text::of("n".repeat(alloc, name)?);
-    source.user_strings = Listed::of(vec![in alloc; 0; user_strings]?);
-    Ok(source)
+    let type_refs = repeated(alloc, &TypeRef(0, "", "R"), rows[0])?;
+    let fields = repeated(alloc, &Field("f", b"\x06\x08"), rows[1])?;
+    let owner = Class("", "T", 0, &[], &[]).make(alloc)?;
+    let types = Listed::of(vec![in alloc; TypeRow { fields, ..owner }]?);
+    let rows = repeated(alloc, &PARAM, rows[2])?;
+    let name = Utf8Text::of("n".repeat(alloc, name)?);
+    let user_strings = Listed::of(vec![in alloc; 0; user_strings]?);
+    let base = base(alloc)?;
+    Ok(Module {
+        name,
+        type_refs,
+        types,
+        user_strings,
+        rows,
+        ..base
+    })
 }
 
 /// The limit that a sound module passes, if there is one.

@@ -1,4 +1,4 @@
-use crate::{Module, SampleName, make, sample};
+use crate::{SampleName, make, sample};
 use assembly_image::{AssemblyImage, read_image};
 use metadata_tables::{column, table};
 use std::alloc::{AllocError, Global};
@@ -54,7 +54,7 @@ const REL: &[u8] = b"Plugin \x01\x02\x00\x00 \
 /// The name, the version's lowest bytes, each table that has rows with the lowest byte of how many
 /// it has, and each method's name, signature and tiny body.
 fn seen(rt: &impl Abort, alloc: Global, which: SampleName) -> Result<Vec<u8>, Fail> {
-    let image = image(rt, alloc, &sample(alloc, which)?)?;
+    let image = image(rt, alloc, which)?;
     let mut found = Vec::new(alloc);
     put_head(&mut found, &image)?;
     for before in 0..image.methods() {
@@ -111,10 +111,16 @@ fn body(image: &AssemblyImage, n: u32) -> &[u8] {
 /// No image of these tests is as long.
 const LONG: usize = 5_000_000;
 
-/// The image of a sound module.
-fn image(rt: &impl Abort, alloc: Global, source: &Module) -> Result<AssemblyImage, Fail> {
+/// What is made of a sample.
+fn made(rt: &impl Abort, alloc: Global, which: SampleName) -> Result<Vec<u8>, Fail> {
+    let source = sample(alloc, which)?;
     assert!(rt; source.sound());
-    let made = make(alloc, source)?;
+    Ok(make(alloc, &source)?)
+}
+
+/// The image of a sample.
+fn image(rt: &impl Abort, alloc: Global, which: SampleName) -> Result<AssemblyImage, Fail> {
+    let made = made(rt, alloc, which)?;
     assert!(rt; made.len() < LONG);
     Ok(read_image(alloc, Arc::new(alloc, made)?)?)
 }

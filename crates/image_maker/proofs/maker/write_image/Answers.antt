@@ -6,6 +6,7 @@ use Rattle.image_maker.specs.Written.{rows_bytes}
 use Rattle.image_maker.specs.Whole.{cells_in}
 use Rattle.image_maker.proofs.LengthBounds.{bodies_small}
 use Rattle.image_maker.proofs.SoundModule as facts
+use Rattle.image_maker.proofs.SoundParts.{limit_parts}
 use Rattle.image_maker.proofs.maker.write_image.Goals as goal
 
 pub write_rows-written-requires-clause-params : goal.write_rows-written-requires-clause-params
@@ -33,7 +34,7 @@ write_parts-requires-clause-ready c =
     let layout : written.layout ≡ layout_at m 0 =
     c.write_rows-written.ensures.layout
     ∙ ap (λ (counts : List ℕ). let l : Layout = record { rows_at = 0; heap_sizes = 7; counts = counts } in l)
-    c.row_counts.ensures in
+    (c.counts.ensures.all (limit_parts m c.requires.within).long) in
     let held = c.write_rows-written.ensures.holds c.if-written.false in
     record {
       layout = layout;

@@ -1,5 +1,4 @@
 use Rattle.std.proofs.Common.{◌≡◌, [], ◌∷◌, true, ap, refl, subst, sym}
-use Rattle.cli_words.specs.Text.{bytes_of}
 use Rattle.image_maker.specs.declared.module.Cell.TheVariants.{Number, Text, Bytes}
 use Rattle.image_maker.specs.Held.{cell_of, fits_in}
 use Rattle.image_maker.specs.Written.{Puts}
