@@ -111,7 +111,7 @@ CanGo-push plan trace wait event reply code made can asked is =
 
 -- the event that it waits for is due
 pub IsAsked-due : (plan : Plan) (trace : List Step) (wait : Wait) (order : Order ImageCode) → CanWait plan trace wait → order.event ≡ event_at plan.wanted wait →
-    IsOrder order.event order → IsAsked plan trace order
+    IsOrder plan.images order.event order → IsAsked plan trace order
 IsAsked-due plan trace wait order can asked brings = record {
   due = λ assemblies agree.
       let way = can.left assemblies agree [] (Err (Stopped (event_at plan.wanted wait)))

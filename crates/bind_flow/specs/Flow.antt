@@ -10,7 +10,9 @@ use Rattle.host_events.specs.declared.order.Order.{Order}
 use Rattle.host_events.specs.declared.order.Room.{Room}
 use Rattle.host_events.specs.declared.outcome.Outcome.{Outcome}
 use Rattle.host_events.specs.declared.reply.Reply.{Reply}
-use Rattle.assembly_image.specs.Reading.{FileReading}
+use Rattle.assembly_image.specs.Reading.{FileReading, module_of}
+use Rattle.assembly_image.specs.Reading.FileReading.{Good}
+use Rattle.std.specs.Arc.{arc_value}
 use Rattle.host_events.specs.Asking.{IsDue}
 use Rattle.host_events.specs.Assemblies.{code_of}
 use Rattle.host_events.specs.Files.{Files}
@@ -21,7 +23,7 @@ use Rattle.host_events.specs.Reserved.{sealed}
 use Rattle.host_events.specs.Steps.{Step, AgreeWith, entry_of, own_steps, without_codes}
 use Rattle.bind_flow.specs.declared.images.ImageCode.{ImageCode}
 use Rattle.bind_flow.specs.Binds.{Binds, Wanted, binds}
-use Rattle.bind_flow.specs.Images.{World, versions_of}
+use Rattle.bind_flow.specs.Images.{World, reading_at, versions_of}
 
 -- what a bind is to do: what is to be bound, and how the images read
 pub record Plan : Type 0 where
@@ -36,22 +38,23 @@ world_of assemblies images = record { assemblies = assemblies; images = images }
 abbrev pub no_room : Room
 no_room = record { numbers = sealed []; first = sealed []; second = sealed []; third = sealed [] }
 
--- The code that a publication brings is that of its image, for its context.
-abbrev pub IsCodeFor : ℕ → Candidate → Option ImageCode → Type 0
-IsCodeFor context (candidates.Image image) code =
+-- The code that a publication brings is of its image, for its context, and shares what the image's file reads as.
+abbrev pub IsCodeFor : List FileReading → ℕ → Candidate → Option ImageCode → Type 0
+IsCodeFor images context (candidates.Image image) code =
     (brought : ImageCode) × (code ≡ Some brought) × (brought.image ≡ image) × (brought.context ≡ context)
-IsCodeFor context (candidates.Assembly a) code = code ≡ None
+    × (reading_at images image ≡ Some (Good (module_of (arc_value brought.shared))))
+IsCodeFor images context (candidates.Assembly a) code = code ≡ None
 
 -- what the order of an event brings as code
-abbrev pub BringsCode : Event → Option ImageCode → Type 0
-BringsCode (events.Publish context name candidate) code = IsCodeFor context candidate code
-BringsCode _ code = code ≡ None
+abbrev pub BringsCode : List FileReading → Event → Option ImageCode → Type 0
+BringsCode images (events.Publish context name candidate) code = IsCodeFor images context candidate code
+BringsCode images _ code = code ≡ None
 
 -- an order that brings what an event within an operation needs: the event twice, and the code of what it publishes
-pub record IsOrder (event : Event) (order : Order ImageCode) : Type 0 where
+pub record IsOrder (images : List FileReading) (event : Event) (order : Order ImageCode) : Type 0 where
   pub asked : order.event ≡ event
   pub same : order.again ≡ event
-  pub coded : BringsCode event order.code
+  pub coded : BringsCode images event order.code
   pub room : order.room ≡ no_room
   pub copy : order.copy ≡ no_room
 
@@ -59,7 +62,7 @@ pub record IsOrder (event : Event) (order : Order ImageCode) : Type 0 where
 pub record IsAsked (plan : Plan) (trace : List Step) (order : Order ImageCode) : Type 0 where
   pub due : (assemblies : ℕ → Option CodeOf) → AgreeWith assemblies trace →
       IsDue (binds (world_of assemblies plan.images) plan.wanted) (without_codes trace) order.event
-  pub brings : IsOrder order.event order
+  pub brings : IsOrder plan.images order.event order
 
 -- The trace is a whole bind with this outcome, whatever the assemblies are that the codes tell.
 abbrev pub IsEnd : Plan → List Step → Outcome → Type 0

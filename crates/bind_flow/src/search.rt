@@ -1,7 +1,9 @@
 //! What is to be bound, and how a bind goes on.
 ghost use Rattle.std.specs.Prelude.{◌≡◌, IfOk, IsSome, Some};
 ghost use Rattle.std.specs.Option.{option_map};
+ghost use Rattle.std.specs.Arc.{arc_value};
 ghost use Rattle.assembly_image.specs.Reading.{module_of};
+ghost use Rattle.assembly_image.specs.Reading.FileReading.{Good};
 ghost use Rattle.host_events.specs.declared.outcome.Outcome.TheVariants as outcomes;
 ghost use Rattle.bind_flow.specs.declared.turn.Turn.TheVariants as turns;
 ghost use Rattle.bind_flow.specs.Flow.{BringsCode, IsOrder, no_room};
@@ -46,7 +48,7 @@ impl Search {
     pub fn order(&self, alloc: Global, wait: Wait) -> Result<Order<ImageCode>, AllocError>
         requires { IsReady (images_of self.now) wait }
         ensures event { IfOk result (λ order. order.event ≡ event_at (wanted_of self.now) wait) }
-        ensures order { IfOk result (λ order. IsOrder order.event order) }
+        ensures order { IfOk result (λ order. IsOrder (images_of self.now) order.event order) }
     {
         Ok(Order {
             event: self.event(alloc, wait)?,
@@ -93,7 +95,8 @@ impl Search {
     /// The code that the order of the event that is due brings.
     fn code(&self, wait: Wait) -> Result<Option<ImageCode>, AllocError>
         requires { IsReady (images_of self.now) wait }
-        ensures { IfOk result (λ code. BringsCode (event_at (wanted_of self.now) wait) code) }
+        ensures { IfOk result (λ code.
+            BringsCode (images_of self.now) (event_at (wanted_of self.now) wait) code) }
     {
         match wait {
             Wait::PublishDefault(image) => Ok(Some(self.code_of(image, 0)?)),
@@ -108,6 +111,8 @@ impl Search {
         requires { IsGood (images_of self.now) image }
         ensures image { IfOk result (λ code. code.image ≡ image) }
         ensures context { IfOk result (λ code. code.context ≡ context) }
+        ensures shared { IfOk result (λ code. reading_at (images_of self.now) image
+            ≡ Some (Good (module_of (arc_value code.shared)))) }
     {
         match self.images.reading(image) {
             Some(ImageReading::Good(shared)) => Ok(ImageCode {
@@ -171,8 +176,9 @@ impl Search {
         code: Option<CodeOf>,
     ) -> Result<Turn, AllocError>
         requires { IsSome (turn_answered (wanted_of self.now) (images_of self.now) step reply.now code) }
-        ensures { IfOk result
-            (λ turn. turn_answered (wanted_of self.now) (images_of self.now) step reply.now code ≡ Some turn) }
+        ensures { IfOk result (λ turn.
+            turn_answered (wanted_of self.now) (images_of self.now) step reply.now code
+            ≡ Some turn) }
     {
         match reply {
             Reply::Nothing => self.after(alloc, step),
@@ -281,7 +287,7 @@ impl Search {
         }
     }
 
-    /// Context 0 has no Load step.
+    /// The first step: context 0 has no Load step.
     fn first_step(&self) -> AskStep
         ensures { result ≡ first_step self.now.context }
     {
@@ -314,7 +320,7 @@ impl Search {
         }
     }
 
-    /// The version of an assembly, whose code comes from there.
+    /// The version of an assembly, by where its code comes from; the platform's for 0.
     fn version_of(&self, assembly: u32, code: Option<CodeOf>) -> Version
         requires { IsSome (version_told (images_of self.now) assembly code) }
         ensures { version_told (images_of self.now) assembly code ≡ Some result }
@@ -339,7 +345,7 @@ impl Search {
     }
 }
 
-/// A file is no image.
+/// The refusal of a file for this check.
 fn refused_at(code: CheckCode, at: u32) -> Turn
     ensures { result ≡ turns.Refused (outcomes.BadImage (record { code = code; at = at })) }
 {
