@@ -1,20 +1,16 @@
 -- Which contexts a collection frees, found number by number.
-use Rattle.std.proofs.Common.{◌≡◌, ℕ, ◌+◌, ◌<◌, ◌≤◌, Bool, true, false, ◌&&◌, ◌||◌, cond, List, [], ◌∷◌, ◌++◌, length, get_or, refl, sym, ap, subst, ◌∙◌, inl, inr, arith}
+use Rattle.std.proofs.Common.{◌≡◌, ℕ, ◌+◌, ◌<◌, ◌≤◌, Bool, true, false, ◌&&◌, cond, List, [], ◌∷◌, ◌++◌, length, get_or, refl, sym, ap, subst, ◌∙◌, inl, inr, arith}
 use Rattle.std.specs.Prelude.{Contains}
-use Rattle.std.specs.List.{list_any}
 use Rattle.std.specs.List.Sorted.{IsStrictlyIncreasing}
 use Rattle.std.proofs.lemmas.Bool.{and_from, and_parts, cases_Bool, cases_lt}
 use Rattle.host_events.proofs.Numbers.{number_of_live}
 use Rattle.std.proofs.lemmas.List.{length_push, get_or_append_left, get_or_push}
 use Rattle.std.proofs.lemmas.List.Elements.{Contains-push, Contains-push_cases, Contains-append_left, Contains-get_or}
-use Rattle.host_events.specs.declared.event.Event.{Event}
-use Rattle.host_events.specs.declared.event.Event.TheVariants as events
-use Rattle.host_events.specs.declared.reply.Reply.{Reply}
 use Rattle.host_events.specs.declared.journal.Entry.{Entry}
 use Rattle.host_events.specs.Contexts.{is_live, is_unloaded, made_count, IsUnloaded}
 use Rattle.host_events.specs.Files.{Files}
 use Rattle.host_events.specs.Journal.{IsLegal}
-use Rattle.host_events.specs.Reachable.{HasCause, IsRoot, IsPath, IsEdge, makes_edge}
+use Rattle.host_events.specs.Reachable.{HasCause, IsRoot, IsPath, IsEdge}
 use Rattle.host_events.specs.Operations.{IsOpen}
 use Rattle.host_events.specs.Reachable.HasCause.{loaded, pinned}
 use Rattle.host_events.specs.Reachable.IsPath.{here, along}

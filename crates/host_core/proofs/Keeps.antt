@@ -1,9 +1,10 @@
 -- What one more entry leaves as it was in the host.
 use Rattle.std.proofs.Common.{◌≡◌, ℕ, ◌+◌, ◌<◌, ◌≤◌, ◌^◌, Bool, true, false, ◌&&◌, eqb, cond, List, [], ◌∷◌, ◌++◌, length, refl, sym, ap, subst, ◌∙◌, inl, inr, arith}
 use Rattle.std.specs.Option.{is_some}
-use Rattle.std.specs.List.{filter, list_all}
+use Rattle.std.specs.List.{AllByRecursion, filter, list_all}
+use Rattle.std.specs.Prelude.{Option, Some, IsSome}
 use Rattle.std.proofs.lemmas.Bool.{and_parts, cases_Bool, eqb-true}
-use Rattle.std.proofs.lemmas.List.{length-append, length_push}
+use Rattle.std.proofs.lemmas.List.{length-append}
 use Rattle.std.proofs.lemmas.List.Elements.{filter-append}
 use Rattle.host_events.specs.declared.event.Event.{Event}
 use Rattle.host_events.specs.declared.event.Event.TheVariants as events
@@ -11,10 +12,14 @@ use Rattle.host_events.specs.declared.reply.Reply.{Reply}
 use Rattle.host_events.specs.declared.journal.Entry.{Entry}
 use Rattle.host_events.specs.declared.order.Order.{Order}
 use Rattle.host_events.specs.declared.order.Room.{Room}
-use Rattle.host_events.specs.Contexts.{freed_contexts, made_context, made_count, named}
 use Rattle.host_events.specs.Bindings.{binding}
-use Rattle.host_events.specs.Files.{Files}
-use Rattle.host_events.specs.Operations.{is_command}
+use Rattle.host_events.specs.Contexts.{freed_contexts, made_context, named}
+use Rattle.host_events.specs.declared.event.Candidate.{Candidate}
+use Rattle.host_events.specs.declared.event.Candidate.TheVariants as candidates
+use Rattle.host_events.specs.declared.order.CodeOf.{CodeOf}
+use Rattle.host_events.specs.Assemblies.{code_in, code_published}
+use Rattle.host_events.specs.Files.{Files, version_of}
+use Rattle.host_events.specs.Images.{IsOfImages}
 use Rattle.host_events.specs.Handles.{weakly}
 use Rattle.host_events.specs.Reply.{IsReply}
 use Rattle.host_events.specs.Steps.{entry_of}
@@ -22,18 +27,13 @@ use Rattle.host_events.proofs.Cases.{alive-each, ask-each, enter-each, lookup-ea
 use Rattle.host_events.proofs.Push.{IsProper-push}
 use Rattle.host_core.specs.declared.bounds.Bounds.{Bounds}
 use Rattle.host_core.specs.declared.bounds.Share.{Share}
-use Rattle.host_core.specs.Accepted.{HasRoom, IsAccepted, MayMake, numbers_due}
-use Rattle.host_core.specs.Allowed.{Fixed, IsAllowed, makes_context_by, makes_handle, makes_handle_by, sets_rule, sets_rule_by, used, used_events, used_contexts, used_handles, used_rules}
+use Rattle.host_core.specs.Accepted.{Brings, BringsCode, HasRoom, IsAccepted, MayMake, numbers_due}
+use Rattle.host_core.specs.Allowed.{Fixed, IsAllowed, keeps_to, makes_context_by, makes_handle, makes_handle_by, sets_rule, sets_rule_by, used, used_events, used_contexts, used_handles, used_rules}
 use Rattle.host_core.specs.Bounds.{part_of}
-use Rattle.host_core.specs.Core.{Core, IsKeptUp, fixed_by}
+use Rattle.host_core.specs.Core.{Core}
 use Rattle.host_core.specs.Replies.{CanRetell}
-use Rattle.host_core.proofs.Shares.{contexts-le, events-le}
+use Rattle.host_core.proofs.Shares.{events-le}
 use Rattle.host_core.proofs.Used.{contexts-count, handles-count, rules-count}
-
-pub numbers-le : (bounds : Bounds) (journal : List Entry) (capacity : ℕ) → IsKeptUp bounds journal capacity →
-    made_count journal + 1 ≤ bounds.contexts
-numbers-le bounds journal capacity kept =
-    omega (arith, contexts-le bounds.shares journal kept.allowed.contexts, ap (λ b. b.contexts) kept.allowed.made_up)
 
 -- fewer contexts ask for no more room
 pub numbers_due-le : (n contexts : ℕ) (event : Event) → n ≤ contexts → numbers_due n event ≤ numbers_due contexts event
@@ -87,7 +87,7 @@ CanRetell-from_room n contexts files journal events.Collect reply room is few al
     (refl, has.0.0, omega (arith, has.1, ap (λ r. length (freed_contexts r)) is.2))
 CanRetell-from_room n contexts files journal (events.Leave operation) reply room is few all has = subst (λ r. CanRetell r room) (sym is) tt
 
-length-filter_push : {X : Type 0} (p : X → Bool) (xs : List X) (x : X) →
+pub length-filter_push : {X : Type 0} (p : X → Bool) (xs : List X) (x : X) →
     length (filter p (xs ++ x ∷ [])) ≡ length (filter p xs) + cond (p x) 1 0
 length-filter_push p xs x =
     ap length (filter-append p xs (x ∷ [])) ∙ length-append (filter p xs) (filter p (x ∷ [])) ∙ ap (λ n. length (filter p xs) + n) (one (p x))
@@ -95,13 +95,6 @@ length-filter_push p xs x =
     one : (b : Bool) → length (cond b (x ∷ []) []) ≡ cond b 1 0
     one true = refl
     one false = refl
-
--- what passes for all passes for one more
-all-push : {X : Type 0} (p : X → Bool) (xs : List X) (x : X) → list_all p xs ≡ true → p x ≡ true → list_all p (xs ++ x ∷ []) ≡ true
-all-push p [] x all here = ap (λ b. b && true) here
-all-push p (y ∷ ys) x all here =
-    let parts = and_parts (p y) (list_all p ys) all in
-    ap (λ b. b && list_all p (ys ++ x ∷ [])) parts.0 ∙ all-push p ys x parts.1 here
 
 -- what an event can make it may make where the thread may ask for it
 may_make_context : (bounds : Bounds) (journal : List Entry) (thread : ℕ) (event : Event) →
@@ -197,10 +190,10 @@ used_events-push shares journal thread event reply within fewer t =
     ]
 
 -- all entries are within the bounds, one more included
-length-le : {C : Type 0} (fixed : Fixed) (journal : List Entry) (thread : ℕ) (order : Order C) (reply : Reply) →
-    IsAllowed fixed journal → IsAccepted fixed journal thread order →
+pub length-le : {C : Type 0} (image : C → ℕ) (fixed : Fixed) (journal : List Entry) (thread : ℕ) (order : Order C) (reply : Reply) →
+    IsAllowed fixed journal → IsAccepted image fixed journal thread order →
     length (journal ++ entry_of thread order.event reply ∷ []) ≤ fixed.bounds.events
-length-le fixed journal thread order reply allowed accepted =
+length-le image fixed journal thread order reply allowed accepted =
     omega (
       arith,
       events-le fixed.bounds.shares (journal ++ entry_of thread order.event reply ∷ [])
@@ -208,18 +201,68 @@ length-le fixed journal thread order reply allowed accepted =
       ap (λ b. b.events) allowed.made_up,
     )
 
-pub IsAllowed-push : {C : Type 0} (fixed : Fixed) (journal : List Entry) (thread : ℕ) (order : Order C) (reply : Reply) →
-    fixed.bounds.events < 2 ^ 32 → IsAllowed fixed journal → IsAccepted fixed journal thread order →
+all-push : {X : Type 0} (P : X → Type 0) (xs : List X) (x : X) → AllByRecursion P xs → P x → AllByRecursion P (xs ++ x ∷ [])
+all-push P [] x all new = (new, tt)
+all-push P (y ∷ ys) x all new = (all.0, all-push P ys x all.1 new)
+
+list_all-push : {X : Type 0} (p : X → Bool) (xs : List X) (x : X) → list_all p xs ≡ true → p x ≡ true → list_all p (xs ++ x ∷ []) ≡ true
+list_all-push p [] x all new = ap (λ b. b && true) new
+list_all-push p (y ∷ ys) x all new =
+    let parts = and_parts (p y) (list_all p ys) all in
+    let rest : list_all p (ys ++ x ∷ []) ≡ true = list_all-push p ys x parts.1 new in
+    cc (parts.0, rest)
+
+-- the image that an order publishes has a version
+version_brought : {C : Type 0} (image : C → ℕ) (files : Files) (context : ℕ) (candidate : Candidate) (brought : Option C) (code : CodeOf) →
+    BringsCode image files candidate brought → code_in context candidate ≡ Some code → IsSome (version_of files code.image)
+version_brought image files context (candidates.Image i) brought code brings is =
+    let same : record { image = i; context = context } ≡ code = cc in
+    subst (λ (k : CodeOf). IsSome (version_of files k.image)) same brings.0
+version_brought image files context (candidates.Assembly a) brought code brings is = cc
+
+version_of_order : {C : Type 0} (image : C → ℕ) (files : Files) (event : Event) (brought : Option C) (code : CodeOf) →
+    Brings image files event brought → code_published event ≡ Some code → IsSome (version_of files code.image)
+version_of_order image files (events.New name kind) brought code brings is = cc
+version_of_order image files (events.Rule place name answer) brought code brings is = cc
+version_of_order image files (events.Enter name) brought code brings is = cc
+version_of_order image files (events.EnterHandle handle) brought code brings is = cc
+version_of_order image files (events.Lookup context name version) brought code brings is = cc
+version_of_order image files (events.Ask step context name) brought code brings is = cc
+version_of_order image files (events.Publish context name candidate) brought code brings is = version_brought image files context candidate brought code brings is
+version_of_order image files (events.Place user key) brought code brings is = cc
+version_of_order image files (events.LoadStatic key field kind) brought code brings is = cc
+version_of_order image files (events.StoreStatic key field value) brought code brings is = cc
+version_of_order image files (events.Hold handle assembly method) brought code brings is = cc
+version_of_order image files (events.DropHandle handle) brought code brings is = cc
+version_of_order image files (events.Weak handle name) brought code brings is = cc
+version_of_order image files (events.Alive handle) brought code brings is = cc
+version_of_order image files (events.Unload name) brought code brings is = cc
+version_of_order image files events.Collect brought code brings is = cc
+version_of_order image files (events.Leave operation) brought code brings is = cc
+
+of_images : {C : Type 0} (image : C → ℕ) (fixed : Fixed) (journal : List Entry) (thread : ℕ) (order : Order C) (reply : Reply) → IsAccepted image fixed journal thread order →
+    IsReply fixed.files journal order.event reply → IsOfImages fixed.files (entry_of thread order.event reply)
+of_images image fixed journal thread order reply accepted is = record {
+  ruled = accepted.ruled;
+  bound = λ a code bound published. version_of_order image fixed.files order.event order.code code accepted.coded published;
+}
+
+pub IsAllowed-push : {C : Type 0} (image : C → ℕ) (fixed : Fixed) (journal : List Entry) (thread : ℕ) (order : Order C) (reply : Reply) →
+    fixed.bounds.events < 2 ^ 32 → IsAllowed fixed journal → IsAccepted image fixed journal thread order →
     IsReply fixed.files journal order.event reply → IsAllowed fixed (journal ++ entry_of thread order.event reply ∷ [])
-IsAllowed-push fixed journal thread order reply short allowed accepted is =
+IsAllowed-push image fixed journal thread order reply short allowed accepted is =
     let shares = fixed.bounds.shares in
     let may = accepted.makes in
     record {
+      images = record {
+        numbered = allowed.images.numbered;
+        each = all-push (IsOfImages fixed.files) journal (entry_of thread order.event reply) allowed.images.each (of_images image fixed journal thread order reply accepted is);
+      };
+      kind = list_all-push (λ (e : Entry). keeps_to fixed.collects e.event) journal (entry_of thread order.event reply) allowed.kind accepted.kind;
       proper = IsProper-push fixed.files journal (entry_of thread order.event reply) allowed.proper accepted.fits is;
-      commands = all-push (λ (e : Entry). is_command e.event) journal (entry_of thread order.event reply) allowed.commands accepted.command;
       made_up = allowed.made_up;
       numbered = allowed.numbered;
-      few = omega (arith, length-le fixed journal thread order reply allowed accepted);
+      few = omega (arith, length-le image fixed journal thread order reply allowed accepted);
       events = used_events-push shares journal thread order.event reply allowed.events accepted.events;
       contexts = used-push (λ r. is_some (made_context r)) (λ share. share.contexts) shares journal thread order.event reply allowed.contexts
           (λ makes. may_make_context fixed.bounds journal thread order.event (contexts-count fixed.files journal order.event reply is makes) may);
@@ -230,25 +273,7 @@ IsAllowed-push fixed journal thread order reply short allowed accepted is =
     }
 
 -- the condition of an order, at two spellings of the host
-pub IsAccepted-same : {C : Type 0} {host now : Core} {thread : ℕ} {order : Order C} → host ≡ now →
-    IsAccepted now.fixed now.journal thread order → IsAccepted host.fixed host.journal thread order
-IsAccepted-same {C} {host} {now} {thread} {order} same accepted =
-    subst (λ (v : Core). IsAccepted v.fixed v.journal thread order) (sym same) accepted
-
--- there is room for the entry of an order
-pub length-lt : {C : Type 0} {bounds : Bounds} {journal : List Entry} {capacity thread : ℕ} {order : Order C} (reply : Reply) →
-    IsKeptUp bounds journal capacity → IsAccepted (fixed_by bounds) journal thread order → length journal < capacity
-length-lt {C} {bounds} {journal} {capacity} {thread} {order} reply kept accepted =
-    omega (arith, length-le (fixed_by bounds) journal thread order reply kept.allowed accepted, length_push journal (entry_of thread order.event reply), kept.room)
-
--- the host's type keeps the same after the entry
-pub IsKeptUp-push : {C : Type 0} {bounds : Bounds} {journal : List Entry} {capacity thread : ℕ} {order : Order C} (reply : Reply) →
-    IsKeptUp bounds journal capacity → IsAccepted (fixed_by bounds) journal thread order → IsReply (fixed_by bounds).files journal order.event reply →
-    (items : List Entry) (grown : ℕ) → items ≡ journal ++ entry_of thread order.event reply ∷ [] →
-    capacity ≤ grown → IsKeptUp bounds items grown
-IsKeptUp-push {C} {bounds} {journal} {capacity} {thread} {order} reply kept accepted is items grown now more = record {
-  allowed = subst (λ j. IsAllowed (fixed_by bounds) j) (sym now)
-      (IsAllowed-push (fixed_by bounds) journal thread order reply kept.events kept.allowed accepted is);
-  events = kept.events;
-  room = omega (arith, kept.room);
-}
+pub IsAccepted-same : {C : Type 0} {image : C → ℕ} {host now : Core} {thread : ℕ} {order : Order C} → host ≡ now →
+    IsAccepted image now.fixed now.journal thread order → IsAccepted image host.fixed host.journal thread order
+IsAccepted-same {C} {image} {host} {now} {thread} {order} same accepted =
+    subst (λ (v : Core). IsAccepted image v.fixed v.journal thread order) (sym same) accepted

@@ -11,8 +11,9 @@ use Rattle.std.proofs.lemmas.Option.{slice_get_cases}
 use Rattle.host_events.specs.declared.journal.Entry.{Entry}
 use Rattle.host_events.specs.Contexts.{made_context, made_count}
 use Rattle.host_core.specs.declared.bounds.Share.{Share}
-use Rattle.host_core.specs.Allowed.{used_contexts, used_events}
+use Rattle.host_core.specs.Allowed.{sets_rule, used_contexts, used_events, used_rules}
 use Rattle.host_core.specs.Bounds.{part_of}
+use Rattle.host_core.specs.Tables.{set_count}
 
 length_cond : {X : Type 0} (b : Bool) (x : X) (xs : List X) → length (cond b (x ∷ xs) xs) ≡ cond b 1 0 + length xs
 length_cond true x xs = omega arith
@@ -141,3 +142,8 @@ contexts-le shares journal within =
       length-filter_map (λ e. made_context e.reply) journal,
       count-le_sum (λ share. share.contexts) (λ e. is_some (made_context e.reply)) shares journal within,
     )
+
+pub rules-le : (shares : List Share) (journal : List Entry) →
+    ((thread : ℕ) → used_rules journal thread ≤ part_of (λ share. share.rules) shares thread) →
+    set_count journal ≤ sum_by (λ share. share.rules) shares
+rules-le shares journal within = count-le_sum (λ share. share.rules) (λ e. sets_rule e.reply) shares journal within

@@ -1,5 +1,5 @@
 -- Which journals the host allows (own).
-use Rattle.std.specs.Prelude.{ℕ, ◌≡◌, ◌≤◌, ◌<◌, ◌^◌, ◌==◌, ◌&&◌, Bool, true, false, List, length, is_some, IsTrue}
+use Rattle.std.specs.Prelude.{ℕ, ◌≡◌, ◌≤◌, ◌<◌, ◌^◌, ◌==◌, ◌&&◌, Bool, true, false, not, List, length, is_some, IsTrue}
 use Rattle.std.specs.List.{filter, list_all}
 use Rattle.host_events.specs.declared.event.Event.{Event}
 use Rattle.host_events.specs.declared.event.Event.TheVariants as events
@@ -8,8 +8,8 @@ use Rattle.host_events.specs.declared.reply.Reply.{Reply}
 use Rattle.host_events.specs.declared.reply.Reply.TheVariants as replies
 use Rattle.host_events.specs.Contexts.{made_context}
 use Rattle.host_events.specs.Files.{Files}
+use Rattle.host_events.specs.Images.{KnowsImages}
 use Rattle.host_events.specs.Journal.{IsProper}
-use Rattle.host_events.specs.Operations.{is_command}
 use Rattle.host_core.specs.declared.bounds.Bounds.{Bounds}
 use Rattle.host_core.specs.Bounds.{bounds_of, most_contexts, part_of}
 
@@ -17,6 +17,8 @@ use Rattle.host_core.specs.Bounds.{bounds_of, most_contexts, part_of}
 pub record Fixed : Type 0 where
   pub bounds : Bounds
   pub files : Files
+  -- contexts are collected; else operations begin. There is no run with both yet.
+  pub collects : Bool
 
 -- a test of whether the reply says that a handle was made, a strong one or a weak one
 abbrev pub makes_handle : Reply → Bool
@@ -166,11 +168,32 @@ used_handles journal thread = used makes_handle journal thread
 abbrev pub used_rules : List Entry → ℕ → ℕ
 used_rules journal thread = used sets_rule journal thread
 
--- A proper journal of fewer than 2^32 entries, each a command by itself, in which no thread has more than its share.
--- A thread without a share has no entry.
+-- a test of whether the event is one of a run that collects, or of one that does not
+abbrev pub keeps_to : Bool → Event → Bool
+keeps_to collects (events.New name kind) = true
+keeps_to collects (events.Rule place name answer) = true
+keeps_to collects (events.Enter name) = not collects
+keeps_to collects (events.EnterHandle handle) = not collects
+keeps_to collects (events.Lookup context name version) = true
+keeps_to collects (events.Ask step context name) = true
+keeps_to collects (events.Publish context name candidate) = true
+keeps_to collects (events.Place user key) = true
+keeps_to collects (events.LoadStatic key field kind) = true
+keeps_to collects (events.StoreStatic key field value) = true
+keeps_to collects (events.Hold handle assembly method) = true
+keeps_to collects (events.DropHandle handle) = true
+keeps_to collects (events.Weak handle name) = true
+keeps_to collects (events.Alive handle) = true
+keeps_to collects (events.Unload name) = true
+keeps_to collects events.Collect = collects
+keeps_to collects (events.Leave operation) = true
+
+-- A proper journal of fewer than 2^32 entries in which no thread has more than its share, and which names images
+-- that there are. A thread without a share has no entry.
 pub record IsAllowed (fixed : Fixed) (journal : List Entry) : Type 0 where
   pub proper : IsProper fixed.files journal
-  pub commands : IsTrue (list_all (λ entry. is_command entry.event) journal)
+  pub images : KnowsImages fixed.files journal
+  pub kind : IsTrue (list_all (λ entry. keeps_to fixed.collects entry.event) journal)
   pub made_up : fixed.bounds ≡ bounds_of fixed.bounds.shares
   pub numbered : fixed.bounds.contexts ≤ most_contexts
   pub few : length journal < 2 ^ 32

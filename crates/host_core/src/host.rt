@@ -1,31 +1,40 @@
-ghost use Rattle.std.specs.Prelude.{◌≡◌, ◌≤◌, [], ◌∷◌, ◌++◌, IfOk, None};
+ghost use Rattle.std.specs.Prelude.{◌≡◌, ◌≤◌, [], ◌∷◌, ◌++◌, IfOk};
 
 use crate::bounds::Bounds;
-use crate::replies::{reply_to, retold};
-use host_events::{Answer, Entry, Journal, Kept, Order};
+use crate::retold::retold;
+use crate::tables::Tables;
+use host_events::{Answer, Code, Entry, Journal, Kept, Order};
+use probing::AppList;
 use std::alloc::{AllocError, Global};
-use std::marker::{Model, PhantomData};
+use std::marker::Model;
 
 /// The host's state. All that it ever needs of memory is taken when it is opened.
 #[derive(Drop)]
-pub struct HostCore<C> {
-    journal: Vec<Entry>,
-    bounds: Bounds,
-    code: PhantomData<C>,
+pub struct HostCore<C: Code> {
+    pub(crate) journal: Vec<Entry>,
+    pub(crate) bounds: Bounds,
+    pub(crate) app: AppList,
+    pub(crate) collects: bool,
+    pub(crate) tables: Tables<C>,
 }
 
-impl<C> Model for HostCore<C> {
+impl<C: Code> Model for HostCore<C> {
     ghost use Rattle.std.specs.Vec.{vec_capacity};
     ghost use Rattle.host_core.specs.Core.{Core, IsKeptUp, fixed_by};
 
     ghost Value = { Core };
 
-    ghost view = { λ host. record { fixed = fixed_by host.bounds; journal = host.journal.items } };
+    ghost view = { λ host. record {
+      fixed = fixed_by host.bounds host.app host.collects;
+      journal = host.journal.items;
+    } };
 
-    ghost invariant = { λ host. IsKeptUp host.bounds host.journal.items (vec_capacity host.journal) };
+    ghost invariant = { λ host. IsKeptUp C.image (fixed_by host.bounds host.app host.collects)
+        host.journal.items host.tables (vec_capacity host.journal) (vec_capacity host.tables.codes) };
 }
 
-impl<C> HostCore<C> {
+impl<C: Code> HostCore<C> {
+    ghost use Rattle.host_events.specs.Assemblies.{code_of};
     ghost use Rattle.host_events.specs.Reply.{IsReply};
     ghost use Rattle.host_events.specs.Steps.{entry_of};
     ghost use Rattle.host_core.specs.Accepted.{IsAccepted};
@@ -33,57 +42,68 @@ impl<C> HostCore<C> {
     ghost use Rattle.host_core.specs.Bounds.{bounds_of, most_contexts};
     ghost use Rattle.host_core.specs.Core.{fixed_by};
 
-    /// A host before its first event. It has no images.
-    pub fn open(alloc: Global, bounds: Bounds) -> Result<HostCore<C>, AllocError>
+    /// A host before its first event, with these image files. It collects contexts, or lets
+    /// operations begin.
+    pub fn open(
+        alloc: Global,
+        bounds: Bounds,
+        app: AppList,
+        collects: bool,
+    ) -> Result<HostCore<C>, AllocError>
         requires made_up { bounds ≡ bounds_of bounds.shares }
         requires numbered { bounds.contexts ≤ most_contexts }
-        ensures host { IfOk result (λ host. host ≡ record { fixed = fixed_by bounds; journal = [] }) }
+        ensures host { IfOk result (λ host.
+            host ≡ record { fixed = fixed_by bounds app collects; journal = [] }) }
         ensures allowed { IfOk result (λ host. IsAllowed host.fixed host.journal) }
     {
         let journal = Vec::with_capacity(alloc, bounds.events as usize)?;
+        let tables = Tables::new(alloc, &bounds)?;
         Ok(HostCore {
             journal,
             bounds,
-            code: PhantomData,
+            app,
+            collects,
+            tables,
         })
     }
 
-    /// Puts the event with its reply at the end of the journal, and answers the reply. It takes no
-    /// memory.
+    /// Puts the event with its reply at the end of the journal, and answers the reply, with where
+    /// the code of the assembly comes from that it names. It takes no memory.
     pub fn apply(&mut self, thread: u32, order: Order<C>) -> Answer
     where
         C: Drop,
-        requires { IsAccepted self.old.fixed self.old.journal thread order }
+        requires { IsAccepted C.image self.old.fixed self.old.journal thread order }
         ensures entry { self.new ≡ record self.old {
           journal = self.old.journal ++ entry_of thread order.event result.reply ∷ [];
         } }
         ensures reply { IsReply self.old.fixed.files self.old.journal order.event result.reply }
         ensures allowed { IsAllowed self.new.fixed self.new.journal }
-        ensures code { result.code ≡ None }
+        ensures code { result.code ≡ code_of self.old.journal (entry_of thread order.event result.reply) }
     {
         let Order {
             event,
-            again: _,
-            code: _,
+            again,
+            code,
             room,
             copy,
         } = order;
-        let reply = reply_to(self.journal.as_slice(), &event, room.numbers);
+        let reply = self.reply_to(&event, room.numbers);
         let told = retold(&reply, copy);
+        self.tables.follow(again, code, &reply);
         let entry = Entry {
             thread,
             event,
             reply,
         };
         self.journal.push(entry).unwrap();
-        Answer {
-            reply: told,
-            code: None,
-        }
+        let code = self.code_in(&told);
+        Answer { reply: told, code }
     }
 
     /// All entries, the oldest first.
     pub fn into_journal(self) -> Journal
+    where
+        C: Drop,
         ensures journal { result ≡ self.journal }
         ensures allowed { IsAllowed self.fixed self.journal }
     {
@@ -91,7 +111,8 @@ impl<C> HostCore<C> {
     }
 }
 
-impl<C: Drop> Kept for HostCore<C> {
+impl<C: Code + Drop> Kept for HostCore<C> {
+    ghost use Rattle.host_events.specs.Assemblies.{code_of};
     ghost use Rattle.host_core.specs.Accepted.{IsAccepted};
     ghost use Rattle.host_core.specs.Allowed.{Fixed, IsAllowed};
 
@@ -107,10 +128,9 @@ impl<C: Drop> Kept for HostCore<C> {
 
     ghost Allows = { λ fixed journal. IsAllowed fixed journal };
 
-    ghost Accepts = { λ fixed journal thread order. IsAccepted fixed journal thread order };
+    ghost Accepts = { λ fixed journal thread order. IsAccepted C.image fixed journal thread order };
 
-    /// No reply names an assembly yet.
-    ghost code_of = { λ journal entry. None };
+    ghost code_of = { code_of };
 
     ghost few = { λ fixed journal allowed. allowed.few };
 

@@ -2,11 +2,15 @@
 //! before it determine.
 #![tactic(auto)]
 
+mod asks;
 mod bounds;
-mod contexts;
 mod handles;
 mod host;
+mod lookups;
+mod platform;
 mod replies;
+mod retold;
+mod tables;
 #[cfg(test)]
 mod tests;
 

@@ -1,11 +1,11 @@
 -- A thread with a share for as many entries as are asked for has room for one more.
-use Rattle.std.proofs.Common.{◌≡◌, ℕ, ◌+◌, ◌<◌, ◌≤◌, zero, suc, Bool, true, false, List, [], ◌∷◌, ◌++◌, length, map, refl, sym, ap, subst, ◌∙◌, ◌&&◌, cond, eqb, arith}
+use Rattle.std.proofs.Common.{◌≡◌, ℕ, ◌+◌, ◌<◌, ◌≤◌, zero, suc, Bool, true, false, Option, None, List, [], ◌∷◌, length, map, refl, sym, ap, subst, ◌∙◌, ◌&&◌, cond, eqb, arith}
 use Rattle.std.specs.List.{filter, list_all}
 use Rattle.std.specs.Option.{is_some}
 use Rattle.std.proofs.lemmas.Bool.{and_parts}
-use Rattle.std.proofs.lemmas.List.{length_push}
-use Rattle.std.proofs.lemmas.List.Folds.{list_all-append}
 use Rattle.host_events.specs.Contexts.{made_context}
+use Rattle.host_events.specs.Files.{Files, no_files}
+use Rattle.host_events.specs.Images.{image_ruled}
 use Rattle.host_events.specs.declared.event.Event.{Event}
 use Rattle.host_events.specs.declared.event.Event.TheVariants as events
 use Rattle.host_events.specs.declared.journal.Entry.{Entry}
@@ -14,12 +14,12 @@ use Rattle.host_events.specs.declared.order.Room.{Room}
 use Rattle.host_events.specs.declared.reply.Reply.{Reply}
 use Rattle.host_events.specs.Journal.{Fits, HasNoOpen, own_entries}
 use Rattle.host_events.specs.Operations.{is_command}
-use Rattle.host_events.specs.Steps.{entry_of}
 use Rattle.host_events.proofs.Operations.{no_open-commands}
 use Rattle.host_core.specs.declared.bounds.Share.{Share}
 use Rattle.host_core.specs.declared.bounds.Bounds.{Bounds}
-use Rattle.host_core.specs.Accepted.{HasRoom, IsAccepted, MayMake, numbers_due, room_for}
-use Rattle.host_core.specs.Allowed.{IsAllowed, makes_handle, sets_rule, used_contexts, used_handles, used_rules}
+use Rattle.host_core.specs.declared.tests.Image.{Image}
+use Rattle.host_core.specs.Accepted.{Brings, HasRoom, IsAccepted, MayMake, numbers_due, room_for}
+use Rattle.host_core.specs.Allowed.{keeps_to, makes_handle, sets_rule, used_contexts, used_handles, used_rules}
 use Rattle.host_core.specs.Bounds.{bounds_of, part_of}
 use Rattle.host_core.specs.Core.{fixed_by}
 use Rattle.host_core.proofs.Keeps.{numbers_due-le}
@@ -106,13 +106,53 @@ has_room entries contexts event room all is =
     most n events.Collect = omega arith
     most n (events.Leave operation) = omega arith
 
-accepted : {C : Type 0} (entries : ℕ) (bounds : Bounds) (journal : List Entry) (thread : ℕ) (order : Order C) →
+-- a command is an event of a run that collects
+keeps : (event : Event) → is_command event ≡ true → keeps_to true event ≡ true
+keeps (events.New name kind) command = refl
+keeps (events.Rule place name answer) command = refl
+keeps (events.Enter name) command = cc
+keeps (events.EnterHandle handle) command = cc
+keeps (events.Lookup context name version) command = cc
+keeps (events.Ask step context name) command = cc
+keeps (events.Publish context name candidate) command = cc
+keeps (events.Place user key) command = cc
+keeps (events.LoadStatic key field kind) command = cc
+keeps (events.StoreStatic key field value) command = cc
+keeps (events.Hold handle assembly method) command = cc
+keeps (events.DropHandle handle) command = refl
+keeps (events.Weak handle name) command = refl
+keeps (events.Alive handle) command = refl
+keeps (events.Unload name) command = refl
+keeps events.Collect command = refl
+keeps (events.Leave operation) command = cc
+
+-- a command brings no code
+brings : {C : Type 0} (image : C → ℕ) (files : Files) (event : Event) (code : Option C) → is_command event ≡ true → Brings image files event code
+brings image files (events.New name kind) code command = tt
+brings image files (events.Rule place name answer) code command = tt
+brings image files (events.Enter name) code command = cc
+brings image files (events.EnterHandle handle) code command = cc
+brings image files (events.Lookup context name version) code command = cc
+brings image files (events.Ask step context name) code command = cc
+brings image files (events.Publish context name candidate) code command = cc
+brings image files (events.Place user key) code command = cc
+brings image files (events.LoadStatic key field kind) code command = cc
+brings image files (events.StoreStatic key field value) code command = cc
+brings image files (events.Hold handle assembly method) code command = cc
+brings image files (events.DropHandle handle) code command = tt
+brings image files (events.Weak handle name) code command = tt
+brings image files (events.Alive handle) code command = tt
+brings image files (events.Unload name) code command = tt
+brings image files events.Collect code command = tt
+brings image files (events.Leave operation) code command = cc
+
+accepted : {C : Type 0} (image : C → ℕ) (entries : ℕ) (bounds : Bounds) (journal : List Entry) (thread : ℕ) (order : Order C) →
     let share : Share = record { events = entries; contexts = entries; handles = entries; rules = entries } in
     bounds ≡ bounds_of (share ∷ share ∷ []) → length journal < entries → 1 ≤ thread → thread ≤ 2 →
-    Fits journal thread order.event → is_command order.event ≡ true → order.again ≡ order.event →
+    Fits journal thread order.event → is_command order.event ≡ true → image_ruled order.event ≡ None → order.again ≡ order.event →
     order.room ≡ room_for (entries + entries + 1) → order.copy ≡ room_for (entries + entries + 1) →
-    IsAccepted (fixed_by bounds) journal thread order
-accepted entries bounds journal thread order is fewer low high fits command same room copy =
+    IsAccepted image (fixed_by bounds no_files true) journal thread order
+accepted image entries bounds journal thread order is fewer low high fits command ruled same room copy =
     let share : Share = record { events = entries; contexts = entries; handles = entries; rules = entries } in
     let shares : bounds.shares ≡ share ∷ share ∷ [] = ap (λ b. b.shares) is in
     let all : bounds.contexts ≡ entries + entries + 1 = ap (λ b. b.contexts) is ∙ omega arith in
@@ -120,7 +160,6 @@ accepted entries bounds journal thread order is fewer low high fits command same
     λ part whole. ap (λ l. part_of part l thread) shares ∙ two_parts part share thread low high ∙ whole in
     record {
       fits = fits;
-      command = command;
       same = same;
       events = omega (arith, length-filter-le (λ e. eqb e.thread thread) journal, within (λ s. s.events) refl);
       makes = may_make bounds journal thread order.event
@@ -128,6 +167,9 @@ accepted entries bounds journal thread order is fewer low high fits command same
           (omega (arith, length-filter-le (λ e. eqb e.thread thread && makes_handle e.reply) journal, within (λ s. s.handles) refl))
           (omega (arith, length-filter-le (λ e. eqb e.thread thread && sets_rule e.reply) journal, within (λ s. s.rules) refl));
       room_brought = has_room entries bounds.contexts order.event order.room all room;
+      kind = keeps order.event command;
+      ruled = λ i some. cc (ruled, some);
+      coded = brings image no_files order.event order.code command;
       copy_brought = has_room entries bounds.contexts order.event order.copy all copy;
     }
 
@@ -137,11 +179,13 @@ apply-answer-requires c =
     let thread = c.clamp-thread.result in
     let invariant = c.loop-thread.invariant in
     let entries = length c.args.asks.now in
+    let order = c.in_ok-order.order in
     let share : Share = record { events = entries; contexts = entries; handles = entries; rules = entries } in
     let bounds = bounds_of (share ∷ share ∷ []) in
     let none : HasNoOpen host.journal thread =
     no_open-commands host.fixed.files host.journal thread invariant.2.proper.legal (own_commands host.journal thread invariant.3) in
-    subst (λ f. IsAccepted f host.journal thread c.in_ok-order.order) (sym invariant.0)
-    (accepted entries bounds host.journal thread c.in_ok-order.order refl (omega (arith, invariant.1, c.loop-thread-test.true))
+    subst (λ f. IsAccepted (λ (i : Image). i.number) f host.journal thread order) (sym invariant.0)
+    (accepted (λ (i : Image). i.number) entries bounds host.journal thread order refl (omega (arith, invariant.1, c.loop-thread-test.true))
     (omega (arith, c.clamp-thread.ensures)) (omega (arith, c.clamp-thread.ensures))
-    (c.in_ok-order.ensures.fits host.journal thread none) c.in_ok-order.ensures.command c.in_ok-order.ensures.same c.in_ok-order.ensures.room c.in_ok-order.ensures.copy)
+    (c.in_ok-order.ensures.fits host.journal thread none) c.in_ok-order.ensures.command c.in_ok-order.ensures.ruled
+    c.in_ok-order.ensures.same c.in_ok-order.ensures.room c.in_ok-order.ensures.copy)

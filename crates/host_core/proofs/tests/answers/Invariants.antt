@@ -1,5 +1,6 @@
 use Rattle.std.proofs.Common.{◌≡◌, true, [], ◌∷◌, length}
 use Rattle.std.specs.List.{list_all}
+use Rattle.host_events.specs.Files.{no_files}
 use Rattle.host_events.specs.Operations.{is_command}
 use Rattle.host_core.specs.declared.bounds.Share.{Share}
 use Rattle.host_core.specs.Allowed.{IsAllowed}
@@ -11,8 +12,5 @@ use Rattle.host_core.proofs.tests.answers.Given as goal
 abbrev pub invariant-loop-thread : goal.invariant-loop-thread
 invariant-loop-thread l =
     let share : Share = record { events = l.entries; contexts = l.entries; handles = l.entries; rules = l.entries } in
-    (l.host.fixed ≡ fixed_by (bounds_of (share ∷ share ∷ []))) × (length l.host.journal ≡ l.thread-index)
+    (l.host.fixed ≡ fixed_by (bounds_of (share ∷ share ∷ [])) no_files true) × (length l.host.journal ≡ l.thread-index)
     × IsAllowed l.host.fixed l.host.journal × (list_all (λ e. is_command e.event) l.host.journal ≡ true)
-
-abbrev pub invariant-loop-entry : goal.invariant-loop-entry
-invariant-loop-entry l = Unit {0}

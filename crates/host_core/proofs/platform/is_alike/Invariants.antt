@@ -1,0 +1,7 @@
+use Rattle.std.proofs.Common.{◌≡◌, ℕ, ◌<◌, get_or}
+use Rattle.std.specs.Char.{to_ascii_lowercase}
+use Rattle.host_core.proofs.platform.is_alike.Given as goal
+
+abbrev pub invariant-loop-i : goal.invariant-loop-i
+invariant-loop-i l =
+    (k : ℕ) → k < l.i → to_ascii_lowercase (get_or l.units k 0) ≡ to_ascii_lowercase (get_or l.letters k 0)
