@@ -26,36 +26,36 @@ use Rattle.bind_flow.specs.Images.{World, assembly_version_in, reading_at}
 use Rattle.bind_flow.specs.Laws.{BindsInOrder, OneBind}
 
 -- the task has one way for its replies, and each of its events was due
-record InOrder {A : Type 0} (task : Asking A) : Type 0 where
-  exact : IsExact task
-  stops : CanStop event_asked task
+pub record InOrder {A : Type 0} (task : Asking A) : Type 0 where
+  pub exact : IsExact task
+  pub stops : CanStop event_asked task
 
-order-never : {A : Type 0} → InOrder {A = A} never
+pub order-never : {A : Type 0} → InOrder {A = A} never
 order-never = record { exact = exact-never; stops = stops-never event_asked }
 
-order-give : (a : ℕ) → InOrder (give a)
+pub order-give : {A : Type 0} (a : A) → InOrder (give a)
 order-give a = record { exact = exact-look _; stops = stops-look event_asked _ }
 
-order-refuses : (outcome : Outcome) → InOrder {A = ℕ} (refuses outcome)
+order-refuses : {A : Type 0} (outcome : Outcome) → InOrder {A = A} (refuses outcome)
 order-refuses outcome = record { exact = exact-look _; stops = stops-look event_asked _ }
 
 order-pick : {A : Type 0} (b : Bool) (first second : Asking A) → InOrder first → InOrder second → InOrder (pick b first second)
 order-pick b first second f s = record { exact = exact-pick b first second f.exact s.exact; stops = stops-pick event_asked b first second f.stops s.stops }
 
-order-if_some : {X A : Type 0} (x : Option X) (task : X → Asking A) (other : Asking A) → ((value : X) → InOrder (task value)) → InOrder other →
+pub order-if_some : {X A : Type 0} (x : Option X) (task : X → Asking A) (other : Asking A) → ((value : X) → InOrder (task value)) → InOrder other →
     InOrder (if_some x task other)
 order-if_some x task other t o = record {
   exact = exact-if_some x task other (λ value. (t value).exact) o.exact;
   stops = stops-if_some event_asked x task other (λ value. (t value).stops) o.stops;
 }
 
-order-then : {A B : Type 0} (first : Asking A) (next : A → Asking B) → InOrder first → ((value : A) → InOrder (next value)) → InOrder (first >>= next)
+pub order-then : {A B : Type 0} (first : Asking A) (next : A → Asking B) → InOrder first → ((value : A) → InOrder (next value)) → InOrder (first >>= next)
 order-then first next f n = record {
   exact = exact-then first next f.exact (λ value. (n value).exact);
   stops = stops-then event_asked first next f.stops (λ value. (n value).stops);
 }
 
-order-asks : (event : Event) (next : Reply → Asking ℕ) → ((reply : Reply) → InOrder (next reply)) → InOrder (asks event >>= next)
+pub order-asks : {A : Type 0} (event : Event) (next : Reply → Asking A) → ((reply : Reply) → InOrder (next reply)) → InOrder (asks event >>= next)
 order-asks event next n = order-then (asks event) next (record { exact = exact-asks event; stops = stops-asks event }) n
 
 order-if_serves : (wanted : Wanted) (next : Asking ℕ) (found : Option Version) → InOrder next → InOrder (if_serves wanted next found)
@@ -72,7 +72,7 @@ order-published world wanted reply = order-never
 order-publishes : (world : World) (wanted : Wanted) (candidate : Candidate) → InOrder (publishes world wanted candidate)
 order-publishes world wanted candidate = order-asks _ _ (order-published world wanted)
 
-order-image_published : (reply : Reply) → InOrder (image_published reply)
+pub order-image_published : (reply : Reply) → InOrder (image_published reply)
 order-image_published (replies.Bound a) = order-give a
 order-image_published (replies.Lost a) = order-give a
 order-image_published reply = order-never
@@ -92,7 +92,7 @@ order-publishes_image world wanted Default image =
 order-if_fits : (wanted : Wanted) (next : Asking ℕ) (m : Module) → InOrder next → InOrder (if_fits wanted next m)
 order-if_fits wanted next m n = order-pick _ _ _ (order-if_serves wanted next (Some (assembly_version m)) n) (order-refuses (outcomes.NameMismatch wanted.name))
 
-order-if_module : (next : Module → Asking ℕ) (reading : FileReading) → ((m : Module) → InOrder (next m)) → InOrder (if_module next reading)
+pub order-if_module : (next : Module → Asking ℕ) (reading : FileReading) → ((m : Module) → InOrder (next m)) → InOrder (if_module next reading)
 order-if_module next Absent n = order-refuses _
 order-if_module next TooLong n = order-refuses _
 order-if_module next (NoImage failed) n = order-refuses _
@@ -119,7 +119,7 @@ order-looked_up world wanted (replies.Low a) =
     order-if_some (assembly_version_in world a) _ never (λ version. order-refuses (outcomes.VersionLow wanted.name version)) order-never
 order-looked_up world wanted reply = order-never
 
-order-binds : (world : World) (wanted : Wanted) → InOrder (binds world wanted)
+pub order-binds : (world : World) (wanted : Wanted) → InOrder (binds world wanted)
 unfolding binds
 order-binds world wanted = order-asks _ _ (order-looked_up world wanted)
 

@@ -125,19 +125,19 @@ turn_with wanted images (waits.Publish candidate) reply code = turn_published wa
 turn_with wanted images (waits.Share a) reply code = turn_published wanted images reply code
 
 -- the image is one
-abbrev pub IsGood : List FileReading → ℕ → Type 0
-IsGood images image = IsSome (image_version images image)
+abbrev pub IsModule : List FileReading → ℕ → Type 0
+IsModule images image = IsSome (image_version images image)
 
-abbrev pub IsGoodCandidate : List FileReading → Candidate → Type 0
-IsGoodCandidate images (candidates.Image image) = IsGood images image
-IsGoodCandidate images (candidates.Assembly a) = Unit {0}
+abbrev pub IsPublishable : List FileReading → Candidate → Type 0
+IsPublishable images (candidates.Image image) = IsModule images image
+IsPublishable images (candidates.Assembly a) = Unit {0}
 
 -- what is to be published is an image, if it is not an assembly
 abbrev pub IsReady : List FileReading → Wait → Type 0
 IsReady images waits.Lookup = Unit {0}
 IsReady images (waits.Ask step) = Unit {0}
-IsReady images (waits.PublishDefault image) = IsGood images image
-IsReady images (waits.Publish candidate) = IsGoodCandidate images candidate
+IsReady images (waits.PublishDefault image) = IsModule images image
+IsReady images (waits.Publish candidate) = IsPublishable images candidate
 IsReady images (waits.Share a) = Unit {0}
 
 -- the steps after one

@@ -5,8 +5,6 @@ mod flow;
 mod images;
 mod laws;
 mod search;
-#[cfg(test)]
-mod tests;
 mod turn;
 
 pub use flow::BindFlow;

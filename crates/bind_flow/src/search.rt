@@ -9,7 +9,7 @@ ghost use Rattle.bind_flow.specs.declared.turn.Turn.TheVariants as turns;
 ghost use Rattle.bind_flow.specs.Flow.{BringsCode, IsOrder, no_room};
 ghost use Rattle.bind_flow.specs.Images.{reading_at};
 ghost use Rattle.bind_flow.specs.State.{images_of, wanted_of};
-ghost use Rattle.bind_flow.specs.Turns.{IsGood, IsReady, event_at, first_step};
+ghost use Rattle.bind_flow.specs.Turns.{IsModule, IsReady, event_at, first_step};
 ghost use Rattle.bind_flow.specs.Turns.{image_version, module_turn, reading_turn, served, turn_after};
 ghost use Rattle.bind_flow.specs.Turns.{turn_answered, turn_default, turn_looked_up};
 ghost use Rattle.bind_flow.specs.Turns.{turn_published, turn_with, version_told, wait_default, wait_image};
@@ -108,7 +108,7 @@ impl Search {
 
     /// The code of an image for a context.
     fn code_of(&self, image: u32, context: u32) -> Result<ImageCode, AllocError>
-        requires { IsGood (images_of self.now) image }
+        requires { IsModule (images_of self.now) image }
         ensures image { IfOk result (λ code. code.image ≡ image) }
         ensures context { IfOk result (λ code. code.context ≡ context) }
         ensures shared { IfOk result (λ code. reading_at (images_of self.now) image
@@ -335,7 +335,7 @@ impl Search {
     }
 
     fn version_of_image(&self, image: u32) -> Version
-        requires { IsGood (images_of self.now) image }
+        requires { IsModule (images_of self.now) image }
         ensures { image_version (images_of self.now) image ≡ Some result }
     {
         match self.images.reading(image) {

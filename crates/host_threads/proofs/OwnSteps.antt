@@ -1,5 +1,5 @@
 -- How one entry more changes the steps of its thread, and leaves those of the others.
-use Rattle.std.proofs.Common.{◌≡◌, ◌≢◌, ℕ, cond, List, [], ◌∷◌, ◌++◌, Option, Some, refl, ap, ◌∙◌, append-nil, length, ◌<◌, arith}
+use Rattle.std.proofs.Common.{◌≡◌, ◌≢◌, ℕ, cond, List, [], ◌∷◌, ◌++◌, Option, Some, refl, sym, ap, ◌∙◌, append_assoc, append-nil, length, ◌<◌, arith}
 use Rattle.std.proofs.lemmas.List.{length_push}
 use Rattle.std.proofs.lemmas.Bool.{eq-eqb, ne_eqb}
 use Rattle.host_events.specs.declared.event.Event.{Event}
@@ -9,9 +9,24 @@ use Rattle.host_events.specs.declared.flow.Next.{Next}
 use Rattle.host_events.specs.declared.flow.Next.TheVariants as nexts
 use Rattle.host_events.specs.declared.order.CodeOf.{CodeOf}
 use Rattle.host_events.specs.Flows.{Stand, trace_after}
-use Rattle.host_events.specs.Steps.{Step, entry_of, step_of, own_steps}
+use Rattle.host_events.specs.Steps.{Step, entry_of, one_step, own_steps, step_of, steps_after}
 use Rattle.host_threads.specs.Seats.{IfGoesOn}
 use Rattle.host_events.proofs.Steps.{own_steps-push}
+
+steps_after-append : (code_of : List Entry → Entry → Option CodeOf) (thread : ℕ) (before journal later : List Entry) →
+    steps_after code_of thread before (journal ++ later)
+    ≡ steps_after code_of thread before journal ++ steps_after code_of thread (before ++ journal) later
+steps_after-append code_of thread before [] later = ap (λ b. steps_after code_of thread b later) (sym (append-nil before))
+steps_after-append code_of thread before (e ∷ journal) later =
+    ap (λ steps. one_step code_of thread before e ++ steps) (steps_after-append code_of thread (before ++ e ∷ []) journal later
+    ∙ ap (λ b. steps_after code_of thread (before ++ e ∷ []) journal ++ steps_after code_of thread b later) (append_assoc before (e ∷ []) journal))
+    ∙ sym (append_assoc (one_step code_of thread before e) (steps_after code_of thread (before ++ e ∷ []) journal)
+    (steps_after code_of thread (before ++ e ∷ journal) later))
+
+-- the steps in a journal are those in its beginning, and those after it
+pub own_steps-append : (code_of : List Entry → Entry → Option CodeOf) (journal later : List Entry) (thread : ℕ) →
+    own_steps code_of (journal ++ later) thread ≡ own_steps code_of journal thread ++ steps_after code_of thread journal later
+own_steps-append code_of journal later thread = steps_after-append code_of thread [] journal later
 
 -- an entry is one step more of its thread
 pub own_steps-own : (code_of : List Entry → Entry → Option CodeOf) (journal : List Entry) (thread : ℕ) (event : Event) (reply : Reply) →
