@@ -1,20 +1,39 @@
 -- What the answers of the program's parts come to.
-use Rattle.std.proofs.Common.{◌≡◌, ℕ, ◌<◌, ◌≤◌, List, length, Option, Some, None, refl, ap, subst, ◌⊎◌, inl, inr, arith}
-use Rattle.std.specs.Prelude.{IsSome, IsSomeAnd}
+use Rattle.std.proofs.Common.{◌≡◌, ℕ, List, Option, refl, ap, subst, ◌⊎◌, inl, inr}
+use Rattle.assembly_image.specs.Reading.{FileReading}
 use Rattle.host_events.specs.declared.journal.Entry.{Entry}
 use Rattle.host_events.specs.declared.outcome.CommandEnd.{CommandEnd}
-use Rattle.plug_io.specs.Files.{held_at}
 use Rattle.host_script.specs.declared.script.Script.{Script}
 use Rattle.alc_program.specs.declared.status.Status.{Status}
 use Rattle.alc_program.specs.declared.status.Status.TheVariants.{Done, Usage, Script as Refused, ReadFault, WriteFault, OutOfMemory}
 use Rattle.alc_program.specs.Good.{RunsScript}
-use Rattle.alc_program.specs.Headline.{During, CanBeDone, HasFailed, IsAnswerTo, IsAnswerToInspect, IsAnswerToSteps, IsAnswerToWords, IsReport, IsUntouched}
+use Rattle.alc_program.specs.Headline.{During, CanBeDone, HasFailed, IsAnswerTo, IsAnswerToInspect, IsAnswerToSteps, IsAnswerToWords, IsReport, IsUnread, IsUntouched, WritesNothing}
+use Rattle.alc_program.specs.Images.{AreRead}
 use Rattle.alc_program.specs.Load.{HoldsScript}
 use Rattle.alc_program.proofs.LoadLemmas.{not_refused_file}
 use Rattle.alc_program.proofs.PrintableLemmas.{good_is_printable_each}
 use Rattle.host_report.specs.Report.{report_text}
 use Rattle.alc_program.specs.Words.{Request, Asks}
 use Rattle.alc_program.specs.Words.Request.{steps, inspect}
+
+-- what was not read is the answer
+pub unread_inspect : (file : List ℕ) (files : During (List (List ℕ × List ℕ))) (out : During (List ℕ)) (status : Status) →
+    IsUnread files status → WritesNothing out → IsAnswerToInspect file files out status
+unread_inspect file files out Done is nothing = absurd is
+unread_inspect file files out Usage is nothing = absurd is
+unread_inspect file files out (Refused line cause) is nothing = absurd is
+unread_inspect file files out ReadFault is nothing = (is, nothing)
+unread_inspect file files out WriteFault is nothing = absurd is
+unread_inspect file files out OutOfMemory is nothing = nothing
+
+pub unread_steps : (file schedule : List ℕ) (files : During (List (List ℕ × List ℕ))) (out : During (List ℕ)) (status : Status) →
+    IsUnread files status → WritesNothing out → IsAnswerToSteps file schedule files out status
+unread_steps file schedule files out Done is nothing = absurd is
+unread_steps file schedule files out Usage is nothing = absurd is
+unread_steps file schedule files out (Refused line cause) is nothing = absurd is
+unread_steps file schedule files out ReadFault is nothing = (is, nothing)
+unread_steps file schedule files out WriteFault is nothing = absurd is
+unread_steps file schedule files out OutOfMemory is nothing = nothing
 
 complete_steps : (file schedule : List ℕ) (files : During (List (List ℕ × List ℕ))) (out : During (List ℕ)) (answer : Status) →
     CanBeDone (steps file schedule) files.before → ¬ HasFailed files → ¬ HasFailed out →
@@ -73,16 +92,19 @@ answers_unasked words files out none same_files same_out = record {
 }
 
 -- the report of a run
-pub reported : (held : Option (List (List ℕ × List ℕ))) (file schedule : List ℕ) (script : Script) (journal : List Entry) (ends seen : List (List CommandEnd)) →
-    seen ≡ ends → HoldsScript held file script → RunsScript script schedule journal ends → IsReport held file schedule (report_text seen journal)
-reported held file schedule script journal ends seen same holds run = record {
+pub reported : (held : Option (List (List ℕ × List ℕ))) (file schedule : List ℕ) (script : Script) (images : List FileReading)
+    (journal : List Entry) (ends seen : List (List CommandEnd)) → seen ≡ ends → HoldsScript held file script → AreRead held script.images images →
+    RunsScript script images schedule journal ends → IsReport held file schedule (report_text seen journal)
+reported held file schedule script images journal ends seen same holds read run = record {
   script = script;
   journal = journal;
   ends = ends;
   scripted = holds;
+  images = images;
+  read = read;
   run = run;
   told = (
-    good_is_printable_each holds.bytes script journal ends holds.accepted run.good,
+    good_is_printable_each holds.bytes script held images journal ends holds.accepted read run.good,
     ap (λ es. report_text es journal) same,
   );
 }

@@ -1,9 +1,12 @@
 pub mod DriveLemmas
-pub mod EventLemmas
+pub mod FilesLemmas
 pub mod HeadlineLemmas
+pub mod ImageLemmas
 pub mod InspectionLemmas
+pub mod KindLemmas
 pub mod LoadLemmas
 pub mod OneRun
+pub mod PlaceLemmas
 pub mod PrintableLemmas
 pub mod ReadingLemmas
 pub mod RunLemmas

@@ -1,25 +1,41 @@
--- The replies of a legal journal can be told, and each is the outcome of a command.
-use Rattle.std.proofs.Common.{◌≡◌, ℕ, suc, ◌+◌, ◌<◌, ◌≤◌, ◌^◌, Bool, true, false, not, cond, List, [], ◌∷◌, ◌++◌, length, Option, Some, None, refl, sym, ap, subst, ◌∙◌, append_assoc, arith}
+-- The replies of a proper journal can be told, and each that ends a command is the outcome of one.
+use Rattle.std.proofs.Common.{◌≡◌, ◌⊎◌, ℕ, suc, ◌+◌, ◌<◌, ◌≤◌, ◌^◌, Bool, true, false, not, cond, List, [], ◌∷◌, ◌++◌, length, Option, Some, None, refl, sym, subst, inl, inr, append_assoc, arith}
 use Rattle.std.specs.Prelude.{IfSome, IsTrue, codes}
 use Rattle.std.specs.List.{AllByRecursion, Contains, cons_option, filter, filter_map, last_or, slice_get}
 use Rattle.std.specs.Option.{option_map_or}
 use Rattle.std.specs.Str.{bytes_eq}
 use Rattle.std.proofs.lemmas.List.{length-append}
+use Rattle.assembly_name.specs.declared.version.Version.{Version}
+use Rattle.host_events.specs.declared.event.AskStep.{AskStep}
+use Rattle.host_events.specs.declared.event.Candidate.{Candidate}
 use Rattle.host_events.specs.declared.event.Event.{Event}
 use Rattle.host_events.specs.declared.event.Event.TheVariants as events
 use Rattle.host_events.specs.declared.event.RuleAt.{RuleAt}
 use Rattle.host_events.specs.declared.event.RuleAt.TheVariants as places
 use Rattle.host_events.specs.declared.journal.Entry.{Entry}
+use Rattle.host_events.specs.declared.order.CodeOf.{CodeOf}
 use Rattle.host_events.specs.declared.reply.Reply.{Reply}
 use Rattle.host_events.specs.declared.reply.Reply.TheVariants as replies
+use Rattle.host_events.specs.Assemblies.{assembly_in, assembly_of, bound_assembly, bound_count}
+use Rattle.host_events.specs.Bindings.{binding}
 use Rattle.host_events.specs.Contexts.{is_collectible, is_live, is_unloaded, made_context, made_count, made_under, named}
 use Rattle.host_events.specs.Files.{Files}
 use Rattle.host_events.specs.Handles.{weak_context, weak_name, weak_of, weakly}
-use Rattle.host_events.specs.Journal.{IsLegal}
-use Rattle.host_events.specs.Operations.{is_command}
-use Rattle.host_events.specs.Reply.{IsReply, ListsUnkept, reply_to_alive, reply_to_new, reply_to_rule, reply_to_rule_in, reply_to_unload, reply_to_weak}
+use Rattle.host_events.specs.Images.{IsOfImages, KnowsImages}
+use Rattle.host_events.specs.Journal.{IsLegal, IsProper}
+use Rattle.host_events.specs.Operations.{begun_count, begun_operation, is_command}
+use Rattle.host_events.specs.Reply.{IsReply, ListsUnkept, reply_to_alive, reply_to_enter, reply_to_lookup, reply_to_new, reply_to_publish, reply_to_rule, reply_to_rule_in, reply_to_unload, reply_to_weak}
+use Rattle.host_events.specs.Rules.{reply_to_ask}
+use Rattle.host_events.specs.Steps.{entry_of}
+use Rattle.host_events.proofs.Bound.{assembly_bounds}
+use Rattle.host_events.proofs.Cases.{ask-each, lookup-each, publish-each}
+use Rattle.host_events.proofs.Images.{GivesImage, asked_image}
+use Rattle.host_events.proofs.Named.{named_are_made_each}
 use Rattle.host_events.proofs.Numbers.{number_of_live}
+use Rattle.host_events.proofs.Push.{IsProper-prefix}
 use Rattle.host_report.specs.Printable.{IsPrintableReply, ends_command}
+use Rattle.command_flow.proofs.Inner.{is_inner}
+use Rattle.command_flow.proofs.Places.{IsUnbegun}
 
 abbrev IsNumber : ℕ → Type 0
 IsNumber n = n < 2 ^ 32
@@ -28,12 +44,16 @@ IsNumber n = n < 2 ^ 32
 abbrev pub Tells : Reply → Type 0
 Tells reply = IsPrintableReply reply × IsTrue (ends_command reply)
 
-abbrev pub AreTold : List Entry → Type 0
-AreTold entries = AllByRecursion (λ entry. Tells entry.reply) entries
+-- the reply ends a command: its event is a command by itself, or an operation did not begin by it
+abbrev pub EndsCommandBy : Event → Reply → Type 0
+EndsCommandBy event reply = (is_command event ≡ true) ⊎ ((name : List ℕ) × (event ≡ events.Enter name) × IsUnbegun reply)
 
--- each event is a command by itself
-abbrev pub AreCommands : List Entry → Type 0
-AreCommands entries = AllByRecursion (λ entry. is_command entry.event ≡ true) entries
+-- a reply that can be told, and that is the outcome of a command where it ends one
+abbrev pub IsTold : Event → Reply → Type 0
+IsTold event reply = IsPrintableReply reply × (EndsCommandBy event reply → IsTrue (ends_command reply))
+
+abbrev pub AreTold : List Entry → Type 0
+AreTold entries = AllByRecursion (λ entry. IsTold entry.event entry.reply) entries
 
 -- the replies of each kind
 new_tells : (journal : List Entry) (found : Option ℕ) → IfSome found IsNumber → IsNumber (made_count journal + 1) →
@@ -102,20 +122,19 @@ named_number files journal legal below name = at (bytes_eq name (codes "default"
     at false = last_kept IsNumber (is_live journal) live (filter_map (λ entry. made_under name entry.event entry.reply) journal) None tt
 
 -- so is what a weak handle holds, since a reply told it
-weak_number : (reply : Reply) → Tells reply → IfSome (weak_context reply) IsNumber
-weak_number (replies.Weakly c) told =
-    let prints = told.0 in
+weak_number : (reply : Reply) → IsPrintableReply reply → IfSome (weak_context reply) IsNumber
+weak_number (replies.Weakly c) prints =
     let fields = prints.0 in
     let numbers = fields.1 in
     let number = numbers.0 in
     number.0
-weak_number _ told = tt
+weak_number _ prints = tt
 
 weakly_number : (journal : List Entry) (handle : List ℕ) → AreTold journal → IfSome (weakly journal handle) IsNumber
 weakly_number [] handle told = tt
 weakly_number (e ∷ es) handle told =
     at (option_map_or (λ other. bytes_eq other handle) (weak_name e.event) false) (weak_context e.reply)
-    (weak_number e.reply told.0) (weakly_number es handle told.1)
+    (weak_number e.reply told.0.0) (weakly_number es handle told.1)
   where
     rest : List ℕ
     rest = filter_map (λ entry. weak_of handle entry.event entry.reply) es
@@ -167,37 +186,147 @@ reply_tells files journal legal told below events.Collect reply command is =
     subst Tells (sym is.2) (((tt, (freed_tells files journal is.0 legal below is.1, tt)), refl), refl)
 reply_tells files journal legal told below (events.Leave operation) reply command is = cc
 
--- fewer contexts were made than there are entries
-length-option : {X : Type 0} (o : Option X) (xs : List X) → length (cons_option o xs) ≤ 1 + length xs
-length-option None xs = omega arith
-length-option (Some x) xs = omega arith
+-- fewer things are told of entries than there are entries
+given-le : (f : Entry → Option ℕ) (journal : List Entry) → length (filter_map f journal) ≤ length journal
+given-le f [] = omega arith
+given-le f (e ∷ es) = at (f e) (given-le f es)
+  where
+    at : (o : Option ℕ) → length (filter_map f es) ≤ length es → length (cons_option o (filter_map f es)) ≤ length (e ∷ es)
+    at None below = omega arith
+    at (Some n) below = omega arith
 
-made-le : (journal : List Entry) → made_count journal ≤ length journal
-made-le [] = omega arith
-made-le (e ∷ es) =
-    omega (arith, length-option (made_context e.reply) (filter_map (λ entry. made_context entry.reply) es), made-le es)
+-- an assembly that a reply names has a number of so many bits as there are entries at most
+assembly_number : (files : Files) (journal : List Entry) (entry : Entry) (a : ℕ) → IsProper files (journal ++ entry ∷ []) → length journal + 1 < 2 ^ 32 →
+    assembly_in entry.reply ≡ Some a → IsNumber a
+assembly_number files journal entry a proper few is =
+    at (named_are_made_each files (journal ++ entry ∷ []) journal entry [] a proper refl is)
+  where
+    at : (a ≡ 0) ⊎ ((code : CodeOf) × (assembly_of (journal ++ entry ∷ []) a ≡ Some code)) → IsNumber a
+    at (inl platform) = omega (arith, platform)
+    at (inr (code, made)) =
+        let below = (assembly_bounds files (journal ++ entry ∷ []) a code proper.legal made).1 in
+        omega (arith, below, given-le (λ e. bound_assembly e.reply) (journal ++ entry ∷ []), length-append journal (entry ∷ []), few)
 
-told-push : (entries : List Entry) (entry : Entry) → AreTold entries → Tells entry.reply → AreTold (entries ++ entry ∷ [])
+-- an operation that began ends no command
+enter_told : (journal : List Entry) (name : List ℕ) (found : Option ℕ) → IfSome found IsNumber → begun_count journal + 1 < 2 ^ 32 →
+    IsTold (events.Enter name) (reply_to_enter journal found)
+enter_told journal name None some below = (((tt, (tt, tt)), tt), λ ends. refl)
+enter_told journal name (Some c) some below = at (is_unloaded journal c)
+  where
+    unended : EndsCommandBy (events.Enter name) (replies.Entered (begun_count journal + 1) c) → IsTrue (ends_command (replies.Entered (begun_count journal + 1) c))
+    unended (inl command) = cc command
+    unended (inr (other, is, unbegun)) = absurd unbegun
+
+    at : (unloaded : Bool) → IsTold (events.Enter name) (cond unloaded (replies.Unloading c) (replies.Entered (begun_count journal + 1) c))
+    at true = (((tt, ((some, tt), tt)), tt), λ ends. refl)
+    at false = (((tt, ((below, (some, tt)), tt)), tt), unended)
+
+-- a reply within an operation ends no command
+inner_told : (event : Event) (reply : Reply) → is_inner event ≡ true → IsPrintableReply reply → IsTold event reply
+inner_told event reply inner prints = (prints, λ ends. absurd (none event inner ends))
+  where
+    none : (e : Event) → is_inner e ≡ true → EndsCommandBy e reply → ⊥
+    none (events.Lookup context name version) inner (inl command) = cc command
+    none (events.Lookup context name version) inner (inr (other, is, unbegun)) = cc is
+    none (events.Ask step context name) inner (inl command) = cc command
+    none (events.Ask step context name) inner (inr (other, is, unbegun)) = cc is
+    none (events.Publish context name candidate) inner (inl command) = cc command
+    none (events.Publish context name candidate) inner (inr (other, is, unbegun)) = cc is
+    none e inner ends = cc inner
+
+-- the numbers of the assemblies that a reply names
+abbrev Names : Reply → Type 0
+Names reply = (a : ℕ) → assembly_in reply ≡ Some a → IsNumber a
+
+lookup_prints : (files : Files) (journal : List Entry) (version : Version) (found : Option ℕ) → Names (reply_to_lookup files journal version found) →
+    IsPrintableReply (reply_to_lookup files journal version found)
+lookup_prints files journal version found names =
+    lookup-each (λ r. Names r → IsPrintableReply r) files journal version found (λ names. ((tt, (tt, tt)), tt))
+    (λ a names. ((tt, ((names a refl, tt), tt)), tt)) (λ a names. ((tt, ((names a refl, tt), tt)), tt)) names
+
+publish_prints : (journal : List Entry) (c : ℕ) (candidate : Candidate) (found : Option ℕ) → Names (reply_to_publish journal c candidate found) →
+    IsPrintableReply (reply_to_publish journal c candidate found)
+publish_prints journal c candidate found names =
+    publish-each (λ r. Names r → IsPrintableReply r) journal c candidate found
+    (λ a names. ((tt, ((names a refl, tt), tt)), tt)) (λ a names. ((tt, ((names a refl, tt), tt)), tt)) (λ a names. ((tt, ((names a refl, tt), tt)), tt))
+    (λ names. ((tt, ((names (bound_count journal + 1) refl, tt), tt)), tt)) names
+
+ask_prints : (files : Files) (journal : List Entry) (step : AskStep) (c : ℕ) (n : List ℕ) → length files.versions < 2 ^ 32 →
+    Names (reply_to_ask files journal step c n) → GivesImage files (reply_to_ask files journal step c n) → IsPrintableReply (reply_to_ask files journal step c n)
+ask_prints files journal step c n few names gives =
+    ask-each (λ r. Names r → GivesImage files r → IsPrintableReply r) files journal step c n (λ names gives. ((tt, (tt, tt)), tt))
+    (λ i names gives. let there = (gives i refl).within in ((tt, ((omega (arith, few, there), tt), tt)), tt))
+    (λ a names gives. ((tt, ((names a refl, tt), tt)), tt)) names gives
+
+-- the reply to an event, after told replies
+reply_told : (files : Files) (journal : List Entry) (thread : ℕ) (event : Event) (reply : Reply) → IsProper files (journal ++ entry_of thread event reply ∷ []) →
+    KnowsImages files journal → AreTold journal → length journal + 1 < 2 ^ 32 → IsTold event reply
+reply_told files journal thread event reply proper knows told few = by_event event (λ a is. assembly_number files journal (entry_of thread event reply) a proper few is) (proper.legal journal (entry_of thread event reply) [] refl)
+  where
+    legal : IsLegal files journal
+    legal = (IsProper-prefix files journal (entry_of thread event reply ∷ []) proper).legal
+
+    below : made_count journal + 1 < 2 ^ 32
+    below = omega (arith, few, given-le (λ e. made_context e.reply) journal)
+
+    command : (e : Event) → is_command e ≡ true → IsReply files journal e reply → IsTold e reply
+    command e is replied = let tells = reply_tells files journal legal told below e reply is replied in (tells.0, λ ends. tells.1)
+
+    by_event : (e : Event) → Names reply → IsReply files journal e reply → IsTold e reply
+    by_event (events.New name kind) names is = command (events.New name kind) refl is
+    by_event (events.Rule place name answer) names is = command (events.Rule place name answer) refl is
+    by_event (events.Enter name) names is =
+        subst (IsTold (events.Enter name)) (sym is)
+        (enter_told journal name (named journal name) (named_number files journal legal below name) (omega (arith, few, given-le (λ e. begun_operation e.reply) journal)))
+    by_event (events.EnterHandle handle) names is = absurd is
+    by_event (events.Lookup context name version) names is =
+        inner_told (events.Lookup context name version) reply refl
+        (subst IsPrintableReply (sym is) (lookup_prints files journal version (binding journal context name) (subst Names is names)))
+    by_event (events.Ask step context name) names is =
+        inner_told (events.Ask step context name) reply refl
+        (subst IsPrintableReply (sym is)
+        (ask_prints files journal step context name knows.numbered.few (subst Names is names) (asked_image files journal step context name knows)))
+    by_event (events.Publish context name candidate) names is =
+        inner_told (events.Publish context name candidate) reply refl
+        (subst IsPrintableReply (sym is) (publish_prints journal context candidate (binding journal context name) (subst Names is names)))
+    by_event (events.Place user key) names is = absurd is
+    by_event (events.LoadStatic key field kind) names is = absurd is
+    by_event (events.StoreStatic key field value) names is = absurd is
+    by_event (events.Hold handle assembly method) names is = absurd is
+    by_event (events.DropHandle handle) names is = absurd is
+    by_event (events.Weak handle name) names is = command (events.Weak handle name) refl is
+    by_event (events.Alive handle) names is = command (events.Alive handle) refl is
+    by_event (events.Unload name) names is = command (events.Unload name) refl is
+    by_event events.Collect names is = command events.Collect refl is
+    by_event (events.Leave operation) names is = (subst IsPrintableReply (sym is) ((tt, (tt, tt)), tt), unended)
+      where
+        unended : EndsCommandBy (events.Leave operation) reply → IsTrue (ends_command reply)
+        unended (inl command) = cc command
+        unended (inr (name, same, unbegun)) = cc same
+
+told-push : (entries : List Entry) (entry : Entry) → AreTold entries → IsTold entry.event entry.reply → AreTold (entries ++ entry ∷ [])
 told-push [] entry told here = (here, tt)
 told-push (e ∷ es) entry told here = (told.0, told-push es entry told.1 here)
 
-front_legal : (files : Files) (before after : List Entry) → IsLegal files (before ++ after) → IsLegal files before
-front_legal files before after legal front entry rest at =
-    legal front entry (rest ++ after) (ap (λ j. j ++ after) at ∙ append_assoc front (entry ∷ rest) after)
+pub all-front : {X : Type 0} (P : X → Type 0) (xs ys : List X) → AllByRecursion P (xs ++ ys) → AllByRecursion P xs
+all-front P [] ys all = tt
+all-front P (x ∷ xs) ys all = (all.0, all-front P xs ys all.1)
 
-told_from : (files : Files) (before after : List Entry) → IsLegal files (before ++ after) → length (before ++ after) < 2 ^ 32 →
-    AreCommands after → AreTold before → AreTold after
-told_from files before [] legal few commands told = tt
-told_from files before (e ∷ es) legal few commands told =
+told_from : (files : Files) (before after : List Entry) → IsProper files (before ++ after) → KnowsImages files (before ++ after) →
+    length (before ++ after) < 2 ^ 32 → AreTold before → AreTold after
+told_from files before [] proper knows few told = tt
+told_from files before (e ∷ es) proper knows few told =
     let joined : (before ++ e ∷ []) ++ es ≡ before ++ e ∷ es = append_assoc before (e ∷ []) es in
-    let below : made_count before + 1 < 2 ^ 32 = omega (arith, few, made-le before, length-append before (e ∷ es)) in
-    let here : Tells e.reply =
-    reply_tells files before (front_legal files before (e ∷ es) legal) told below e.event e.reply commands.0 (legal before e es refl) in (
+    let whole : IsProper files ((before ++ e ∷ []) ++ es) = subst (λ (j : List Entry). IsProper files j) (sym joined) proper in
+    let room : length before + 1 < 2 ^ 32 = omega (arith, few, length-append before (e ∷ es)) in
+    let here : IsTold e.event e.reply =
+    reply_told files before e.thread e.event e.reply (IsProper-prefix files (before ++ e ∷ []) es whole)
+    (record { numbered = knows.numbered; each = all-front (IsOfImages files) before (e ∷ es) knows.each }) told room in (
       here,
-      told_from files (before ++ e ∷ []) es (subst (λ (j : List Entry). IsLegal files j) (sym joined) legal)
-          (subst (λ (j : List Entry). length j < 2 ^ 32) (sym joined) few) commands.1 (told-push before e told here),
+      told_from files (before ++ e ∷ []) es whole (subst (λ (j : List Entry). KnowsImages files j) (sym joined) knows)
+          (subst (λ (j : List Entry). length j < 2 ^ 32) (sym joined) few) (told-push before e told here),
     )
 
--- the replies to commands, in a legal journal of few entries, are told
-pub replies_are_told : (files : Files) (journal : List Entry) → IsLegal files journal → length journal < 2 ^ 32 → AreCommands journal → AreTold journal
-replies_are_told files journal legal few commands = told_from files [] journal legal few commands tt
+-- the replies of a proper journal of few entries are told
+pub replies_are_told : (files : Files) (journal : List Entry) → IsProper files journal → KnowsImages files journal → length journal < 2 ^ 32 → AreTold journal
+replies_are_told files journal proper knows few = told_from files [] journal proper knows few tt

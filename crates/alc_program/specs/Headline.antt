@@ -9,6 +9,7 @@ use Rattle.host_script.specs.declared.script.Script.{Script}
 use Rattle.alc_program.specs.declared.status.Status.{Status}
 use Rattle.alc_program.specs.declared.status.Status.TheVariants.{Done, Usage, Script as Refused, ReadFault, WriteFault, OutOfMemory}
 use Rattle.alc_program.specs.Good.{RunsScript}
+use Rattle.alc_program.specs.Images.{AreRead}
 use Rattle.alc_program.specs.Inspect.{ReadsAs}
 use Rattle.alc_program.specs.Inspection.{inspection_text}
 use Rattle.host_report.specs.Line.{HasStopped}
@@ -44,14 +45,22 @@ WritesPart out text = HasStopped out.before out.after text
 abbrev pub WritesNothing : During (List ℕ) → Type 0
 WritesNothing out = out.after ≡ out.before
 
--- The text is the report of a run of the file's script, in the turns of the schedule, and reads back as what the
--- run left.
+-- what is answered in place of how a file reads as an image: its read failed, or memory was wanting
+abbrev pub IsUnread : During (List (List ℕ × List ℕ)) → Status → Type 0
+IsUnread files ReadFault = HasFailed files
+IsUnread files OutOfMemory = Unit {0}
+IsUnread files _ = ⊥
+
+-- The text is the report of a run of the file's script over what the files of its images read as, in the turns of
+-- the schedule, and reads back as what the run left.
 pub record IsReport (held : Option (List (List ℕ × List ℕ))) (file schedule text : List ℕ) : Type 0 where
   pub script : Script
   pub journal : List Entry
   pub ends : List (List CommandEnd)
   pub scripted : HoldsScript held file script
-  pub run : RunsScript script schedule journal ends
+  pub images : List FileReading
+  pub read : AreRead held script.images images
+  pub run : RunsScript script images schedule journal ends
   pub told : IsReadBack text (ends, journal)
 
 -- The text is the inspection of what the file reads as: it may be absent, too long or no image.

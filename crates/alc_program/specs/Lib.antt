@@ -1,5 +1,6 @@
 pub mod Good
 pub mod Headline
+pub mod Images
 pub mod Inspect
 pub mod Inspection
 pub mod Laws

@@ -1,51 +1,51 @@
 -- Which lines of a script are not run yet (own).
-use Rattle.std.specs.Prelude.{ℕ, Bool, true, false, ◌≡◌, ◌≤◌, ◌++◌, if◌then◌else◌, List, [], Option, Some, None, map, Contains}
-use Rattle.std.specs.List.{AllByRecursion, filter_map, flat_map, range_with_len}
-use Rattle.std.specs.Option.{option_map}
+use Rattle.std.specs.Prelude.{ℕ, Bool, true, false, ◌≡◌, ◌≤◌, ◌&&◌, ◌||◌, not, List, [], Option, Some, None, map, Contains, nat_le}
+use Rattle.std.specs.List.{AllByRecursion, filter, flat_map, list_any}
 use Rattle.host_script.specs.declared.command.Command.{Command}
 use Rattle.host_script.specs.declared.command.Command.TheVariants as commands
 use Rattle.host_script.specs.declared.command.CommandLine.{CommandLine}
-use Rattle.host_script.specs.declared.images.ImageLine.{ImageLine}
 use Rattle.host_script.specs.declared.script.Script.{Script}
-use Rattle.host_script.specs.Images.{line_at}
+use Rattle.command_flow.specs.Events.{is_built}
 
--- a test of whether the command is run
-abbrev pub is_built : Command → Bool
-is_built (commands.New context fixed) = true
-is_built (commands.On context name answer) = true
-is_built (commands.Resolving context name answer) = true
-is_built (commands.Resolve name answer) = true
-is_built (commands.Load context image) = false
-is_built (commands.Bind context name version) = false
-is_built (commands.Call context name type_name method args) = false
-is_built (commands.Hold handle context name type_name method) = false
-is_built (commands.Invoke handle args) = false
-is_built (commands.DropHandle handle) = false
-is_built (commands.Weak handle context) = true
-is_built (commands.Alive handle) = true
-is_built (commands.Unload context) = true
-is_built commands.Collect = true
+-- a test of whether the command begins an operation that is run
+abbrev pub begins : Command → Bool
+begins (commands.Load context image) = true
+begins (commands.Bind context name version) = true
+begins _ = false
 
--- the line of a command that is not run
-abbrev pub unbuilt_line : CommandLine → Option ℕ
-unbuilt_line line = if is_built line.command then None else Some line.line
+-- a test of whether the command collects contexts
+abbrev pub collects : Command → Bool
+collects commands.Collect = true
+collects _ = false
 
--- the most images of a script
-unfoldable pub most_images : ℕ
-most_images = 256
+-- A test of whether one command bars another that stands below it: a script that collects contexts begins no
+-- operation yet, and the other way round.
+abbrev pub bars : Command → Command → Bool
+bars command other = begins command && collects other || collects command && begins other
 
--- the line of the image of this number
-abbrev pub image_line : List (List ℕ × ImageLine) → ℕ → Option ℕ
-image_line images number = option_map (λ (image : ImageLine). image.line) (line_at images number)
+-- a test of whether a line bars another: it stands no lower, and its command bars the other's (none bars itself)
+abbrev pub bars_line : CommandLine → CommandLine → Bool
+bars_line other line = nat_le other.line line.line && bars other.command line.command
 
--- the lines on which images are declared
-abbrev pub image_lines : List (List ℕ × ImageLine) → List ℕ
-image_lines images = filter_map (image_line images) (range_with_len 1 most_images)
+-- a test of whether the line is run, among these lines of commands
+abbrev pub is_run : List CommandLine → CommandLine → Bool
+is_run lines line = is_built line.command && not (list_any (λ other. bars_line other line) lines)
 
--- the lines that are not run: those of images and applications, and of commands that are not
+-- the lines of the commands of all threads
+abbrev pub command_lines : Script → List CommandLine
+command_lines script = flat_map (λ lines. lines) script.threads
+
+-- which of these lines are not run, among all lines
+abbrev pub lines_not_run : List CommandLine → List CommandLine → List ℕ
+lines_not_run all lines = map (λ line. line.line) (filter (λ line. not (is_run all line)) lines)
+
+-- the lines that are not run
 abbrev pub unbuilt_lines : Script → List ℕ
-unbuilt_lines script =
-    image_lines script.images ++ map (λ app. app.line) script.app ++ flat_map (filter_map unbuilt_line) script.threads
+unbuilt_lines script = lines_not_run (command_lines script) (command_lines script)
+
+-- a test of whether the script collects contexts
+abbrev pub is_collecting : Script → Bool
+is_collecting script = list_any (λ line. collects line.command) (command_lines script)
 
 -- the least of some numbers
 pub record IsLeast (numbers : List ℕ) (n : ℕ) : Type 0 where

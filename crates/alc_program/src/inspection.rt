@@ -10,36 +10,22 @@ ghost use Rattle.assembly_image.specs.Module.{count};
 ghost use Rattle.assembly_image.specs.Names.{full_name, full_name_within, qualified};
 ghost use Rattle.assembly_image.specs.Names.{type_name, type_namespace};
 ghost use Rattle.assembly_image.specs.Reading.{module_of};
-ghost use Rattle.alc_program.specs.Inspect.{meaning};
+ghost use Rattle.bind_flow.specs.Readings.{meaning};
 ghost use Rattle.alc_program.specs.Inspection as spec;
 ghost use Rattle.host_report.specs.Line.{HasStopped, Puts};
 ghost use Rattle.host_report.specs.Quote.{units_text, quoted, IsApart};
 
+use crate::images::IMAGE_LIMIT;
 use assembly_image::{AssemblyImage, Member};
 use assembly_name::Version;
-use cli_words::{CheckCode, FailedCheck};
+use bind_flow::ImageReading;
+use cli_words::CheckCode;
 use host_report::{Line, flush, put, put_number, put_quoted, put_quoted_text, put_text};
 use metadata_tables::{column, table};
 use plug_io::{Failed, Sink};
 
-/// The most bytes of an image.
-pub(crate) const IMAGE_LIMIT: u32 = 4_194_304;
-
 /// The most enclosers that a full name has.
 const MOST_ENCLOSERS: u32 = 16;
-
-/// What a file is, read as an image.
-#[derive(Drop)]
-pub enum Reading {
-    /// There is no such file.
-    Absent,
-    /// It is longer than an image may be.
-    TooLong,
-    /// It is no image: the first check that it fails.
-    Refused(FailedCheck),
-    /// It is an image.
-    Good(AssemblyImage),
-}
 
 /// Writes the inspection of what a file was read as, line by line.
 ///
@@ -47,7 +33,7 @@ pub enum Reading {
 /// proper prefix.
 pub fn write_inspection<S: Sink>(
     line: &mut Line,
-    reading: &Reading,
+    reading: &ImageReading,
     out: &mut S,
 ) -> Result<(), Failed>
     ensures written { let text = spec.inspection_text (meaning reading.now) in
@@ -67,7 +53,7 @@ pub fn write_inspection<S: Sink>(
     }
 }
 
-fn put_inspection<S: Sink>(line: &mut Line, out: &mut S, reading: &Reading)
+fn put_inspection<S: Sink>(line: &mut Line, out: &mut S, reading: &ImageReading)
     ensures { Puts S.written S.faults line.old out.old line.new out.new
         (spec.inspection_text (meaning reading.now)) }
 {
@@ -76,15 +62,15 @@ fn put_inspection<S: Sink>(line: &mut Line, out: &mut S, reading: &Reading)
     put(line, out, b"end\n");
 }
 
-fn put_reading<S: Sink>(line: &mut Line, out: &mut S, reading: &Reading)
+fn put_reading<S: Sink>(line: &mut Line, out: &mut S, reading: &ImageReading)
     ensures { Puts S.written S.faults line.old out.old line.new out.new
         (spec.reading_text (meaning reading.now)) }
 {
     match reading {
-        Reading::Absent => put_bad_image(line, out, CheckCode::Absent, 0),
-        Reading::TooLong => put_bad_image(line, out, CheckCode::TooLong, IMAGE_LIMIT),
-        Reading::Refused(failed) => put_bad_image(line, out, failed.code, failed.at),
-        Reading::Good(image) => put_module(line, out, image),
+        ImageReading::Absent => put_bad_image(line, out, CheckCode::Absent, 0),
+        ImageReading::TooLong => put_bad_image(line, out, CheckCode::TooLong, IMAGE_LIMIT),
+        ImageReading::Bad(failed) => put_bad_image(line, out, failed.code, failed.at),
+        ImageReading::Good(image) => put_module(line, out, image),
     }
 }
 

@@ -2,6 +2,8 @@
 //! image of an assembly names.
 #![tactic(auto)]
 
+mod files;
+mod images;
 mod inspect;
 mod inspection;
 mod laws;

@@ -1,4 +1,6 @@
+mod binds;
 mod devices;
+mod flows;
 mod inspect;
 mod limits;
 mod read_back;

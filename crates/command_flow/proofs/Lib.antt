@@ -1,3 +1,15 @@
+pub mod AgreeLemmas
+pub mod CommandLemmas
+pub mod Counts
+pub mod Fits
 pub mod FlowLemmas
-pub mod RunLemmas
+pub mod Inner
+pub mod InnerLemmas
+pub mod MoveLemmas
+pub mod Named
+pub mod OrderLemmas
+pub mod Places
+pub mod StateLemmas
 pub mod StepLemmas
+pub mod WayLemmas
+pub mod Ways

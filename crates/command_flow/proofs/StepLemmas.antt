@@ -1,104 +1,121 @@
--- The steps of a thread's flow.
-use Rattle.std.proofs.Common.{◌≡◌, ◌<◌, ◌≤◌, ◌+◌, ℕ, zero, suc, Bool, true, false, not, List, [], ◌∷◌, ◌++◌, length, map, take, get_or, Option, Some, None, IsSome, All, refl, sym, ap, subst, ◌∙◌, arith}
-use Rattle.std.specs.List.{cons_option, filter, filter_map, list_all, list_any, slice_get}
-use Rattle.std.specs.Option.{option_map_or}
-use Rattle.std.proofs.lemmas.List.{length-map, map-append}
-use Rattle.std.proofs.lemmas.List.Elements.{All-head, All-tail, filter_map-append}
+-- How one step more changes where a thread is, and what it has open.
+use Rattle.std.proofs.Common.{◌≡◌, ◌∙◌, ◌+◌, ◌<◌, ◌≤◌, ◌||◌, ℕ, sym, ap, subst, refl, Bool, true, false, not, cond, if◌then◌else◌, List, [], ◌∷◌, ◌++◌, Option, Some, None, arith}
+use Rattle.std.specs.List.{cons_option, filter, list_any}
+use Rattle.std.proofs.lemmas.Bool.{false_from_ne_true, or_from, or_right}
+use Rattle.std.proofs.lemmas.List.{append-nil, map-append}
+use Rattle.std.proofs.lemmas.List.Folds.{list_any-append}
 use Rattle.host_events.specs.declared.event.Event.{Event}
-use Rattle.host_events.specs.declared.outcome.CommandEnd.{CommandEnd}
+use Rattle.host_events.specs.declared.event.Event.TheVariants as events
+use Rattle.host_events.specs.declared.journal.Entry.{Entry}
 use Rattle.host_events.specs.declared.reply.Reply.{Reply}
-use Rattle.host_events.specs.Operations.{begun_operation, ends, is_command, open_in}
-use Rattle.host_events.specs.Steps.{Step, step_of, without_codes}
-use Rattle.host_script.specs.declared.command.Command.{Command}
-use Rattle.host_script.specs.declared.command.Command.TheVariants as commands
-use Rattle.command_flow.specs.Events.{event_of, events_of}
-use Rattle.command_flow.specs.Flow.{end_with, replies_of, steps_of, IsKeptUp, IsGoing}
+use Rattle.host_events.specs.Assemblies.{code_of}
+use Rattle.host_events.specs.Files.{Files}
+use Rattle.host_events.specs.Journal.{Fits, IsProper, own_entries}
+use Rattle.host_events.specs.Operations.{begun_operation, ends, open_in}
+use Rattle.host_events.specs.Reply.{IsReply}
+use Rattle.host_events.specs.Steps.{Step, own_steps, without_codes}
+use Rattle.host_events.proofs.Numbering.{number_bounds}
+use Rattle.host_events.proofs.Operations.{ended_own}
+use Rattle.host_events.proofs.Parts.{PartsAt, parts-append, parts_any}
+use Rattle.host_events.proofs.Push.{list_any-push}
+use Rattle.host_events.proofs.Quiet.{begins}
+use Rattle.host_events.proofs.Steps.{own_steps-entries}
+use Rattle.host_events.proofs.Within.{begun_by, ends-leave, number-begun, numbered, open_in-push, within_began}
+use Rattle.command_flow.specs.Flow.{Progress, is_last, progress_after, progress_by, progress_of}
 
--- the command is one event
-abbrev pub is_built : Command → Type 0
-is_built command = IsSome (event_of command)
-
--- the event of a command is a command by itself
-each_is_command : (command : Command) → option_map_or is_command (event_of command) true ≡ true
-each_is_command (commands.New context fixed) = refl
-each_is_command (commands.On context name answer) = refl
-each_is_command (commands.Resolving context name answer) = refl
-each_is_command (commands.Resolve name answer) = refl
-each_is_command (commands.Load context image) = refl
-each_is_command (commands.Bind context name version) = refl
-each_is_command (commands.Call context name type_name method args) = refl
-each_is_command (commands.Hold handle context name type_name method) = refl
-each_is_command (commands.Invoke handle args) = refl
-each_is_command (commands.DropHandle handle) = refl
-each_is_command (commands.Weak handle context) = refl
-each_is_command (commands.Alive handle) = refl
-each_is_command (commands.Unload context) = refl
-each_is_command commands.Collect = refl
-
-is_command_first : (o : Option Event) (rest : List Event) (i : ℕ) (event : Event) → option_map_or is_command o true ≡ true →
-    ((j : ℕ) → slice_get rest j ≡ Some event → is_command event ≡ true) → slice_get (cons_option o rest) i ≡ Some event → is_command event ≡ true
-is_command_first None rest i event first later at = later i at
-is_command_first (Some e) rest zero event first later at = let same : e ≡ event = cc in ap is_command (sym same) ∙ first
-is_command_first (Some e) rest (suc i) event first later at = later i at
-
-pub is_command_at : (given : List Command) (i : ℕ) (event : Event) → slice_get (events_of given) i ≡ Some event → is_command event ≡ true
-is_command_at [] i event at = cc
-is_command_at (c ∷ cs) i event at =
-    is_command_first (event_of c) (events_of cs) i event (each_is_command c) (λ j. is_command_at cs j event) at
-
--- commands that are built have an event each
-pub events_at : (given : List Command) (i : ℕ) (command : Command) → All is_built given → slice_get given i ≡ Some command →
-    slice_get (events_of given) i ≡ event_of command
-events_at [] i command built at = cc
-events_at (c ∷ cs) i command built at = events_first (event_of c) refl (All-head is_built c cs built) i at (λ j. events_at cs j command (All-tail is_built c cs built))
+progress-push : (trace : List Step) (step : Step) → progress_of (trace ++ step ∷ []) ≡ progress_after (progress_of trace) step
+progress-push trace step = from (record { ended = 0; own = [] }) trace
   where
-    events_first : (o : Option Event) → event_of c ≡ o → IsSome o → (j : ℕ) → slice_get (c ∷ cs) j ≡ Some command →
-        ((k : ℕ) → slice_get cs k ≡ Some command → slice_get (events_of cs) k ≡ event_of command) → slice_get (cons_option o (events_of cs)) j ≡ event_of command
-    events_first None is some j at later = cc
-    events_first (Some e) is some zero at later = let same : c ≡ command = cc in sym is ∙ ap event_of same
-    events_first (Some e) is some (suc j) at later = later j at
+    from : (place : Progress) (steps : List Step) → progress_by place (steps ++ step ∷ []) ≡ progress_after (progress_by place steps) step
+    from place [] = refl
+    from place (s ∷ steps) = from (progress_after place s) steps
 
-pub length-events : (given : List Command) → All is_built given → length (events_of given) ≡ length given
-length-events [] built = refl
-length-events (c ∷ cs) built = one_more (event_of c) (All-head is_built c cs built) (length-events cs (All-tail is_built c cs built))
-  where
-    one_more : (o : Option Event) → IsSome o → length (events_of cs) ≡ length cs → length (cons_option o (events_of cs)) ≡ suc (length cs)
-    one_more None some later = cc
-    one_more (Some e) some later = ap suc later
+progress-by : (trace : List Step) (step : Step) (place : Progress) (last : Bool) → progress_of trace ≡ place → is_last step ≡ last →
+    progress_of (trace ++ step ∷ []) ≡ (if last then record { ended = place.ended + 1; own = [] } else record { ended = place.ended; own = place.own ++ step ∷ [] })
+progress-by trace step place last at is =
+    progress-push trace step
+    ∙ ap (λ (p : Progress). progress_after p step) at
+    ∙ ap (λ (b : Bool). if b then record { ended = place.ended + 1; own = [] } else record { ended = place.ended; own = place.own ++ step ∷ [] }) is
 
--- a reply more is a step more
-pub steps_of-push : (events : List Event) (replies : List Reply) (event : Event) (reply : Reply) → slice_get events (length replies) ≡ Some event →
-    steps_of events (replies ++ reply ∷ []) ≡ steps_of events replies ++ step_of event reply None ∷ []
-steps_of-push [] [] event reply at = cc
-steps_of-push [] (r ∷ rs) event reply at = cc
-steps_of-push (e ∷ es) [] event reply at = let same : e ≡ event = cc in ap (λ x. step_of x reply None ∷ []) same
-steps_of-push (e ∷ es) (r ∷ rs) event reply at = ap (λ steps. step_of e r None ∷ steps) (steps_of-push es rs event reply at)
+-- the last step of a command
+pub place-last : (trace : List Step) (step : Step) (ended : ℕ) (own : List Step) → progress_of trace ≡ record { ended = ended; own = own } → is_last step ≡ true →
+    progress_of (trace ++ step ∷ []) ≡ record { ended = ended + 1; own = [] }
+place-last trace step ended own at is = progress-by trace step (record { ended = ended; own = own }) true at is
 
--- the steps are those of the first events
-pub length-steps_of : (events : List Event) (replies : List Reply) → length replies ≤ length events → length (steps_of events replies) ≡ length replies
-length-steps_of [] [] within = refl
-length-steps_of [] (r ∷ rs) within = absurd (omega arith)
-length-steps_of (e ∷ es) [] within = refl
-length-steps_of (e ∷ es) (r ∷ rs) within = ap suc (length-steps_of es rs (omega arith))
+-- a step that is not the last of its command
+pub place-more : (trace : List Step) (step : Step) (ended : ℕ) (own : List Step) → progress_of trace ≡ record { ended = ended; own = own } → is_last step ≡ false →
+    progress_of (trace ++ step ∷ []) ≡ record { ended = ended; own = own ++ step ∷ [] }
+place-more trace step ended own at is = progress-by trace step (record { ended = ended; own = own }) false at is
 
-pub steps_of-front : (events : List Event) (replies : List Reply) → map (λ step. step.event) (steps_of events replies) ≡ take (length (steps_of events replies)) events
-steps_of-front events [] = refl
-steps_of-front [] (r ∷ rs) = refl
-steps_of-front (e ∷ es) (r ∷ rs) = ap (λ xs. e ∷ xs) (steps_of-front es rs)
+open-push : (trace : List Step) (step : Step) →
+    open_in (without_codes (trace ++ step ∷ []))
+    ≡ filter (λ k. not (ends k step.event)) (open_in (without_codes trace))
+    ++ filter (λ k. not (list_any (λ (s : Event × Reply). ends k s.0) (without_codes trace ++ (step.event, step.reply) ∷ []))) (cons_option (begun_operation step.reply) [])
+open-push trace step =
+    ap open_in (map-append (λ (s : Step). (s.event, s.reply)) trace (step ∷ [])) ∙ open_in-push (without_codes trace) (step.event, step.reply)
 
--- where no reply began an operation, none is open
-no_option : (o : Option ℕ) (ks : List ℕ) → cons_option o ks ≡ [] → (o ≡ None) × (ks ≡ [])
-no_option None ks none = (refl, none)
-no_option (Some k) ks none = cc
+-- a step that begins none, where these are open
+open-quiet : (trace : List Step) (step : Step) (open_now : List ℕ) → open_in (without_codes trace) ≡ open_now → begun_operation step.reply ≡ None →
+    open_in (without_codes (trace ++ step ∷ [])) ≡ filter (λ k. not (ends k step.event)) open_now
+open-quiet trace step open_now now none =
+    open-push trace step
+    ∙ ap (λ o. filter (λ k. not (ends k step.event)) (open_in (without_codes trace))
+    ++ filter (λ k. not (list_any (λ (s : Event × Reply). ends k s.0) (without_codes trace ++ (step.event, step.reply) ∷ []))) (cons_option o [])) none
+    ∙ append-nil (filter (λ k. not (ends k step.event)) (open_in (without_codes trace)))
+    ∙ ap (filter (λ k. not (ends k step.event))) now
 
-quiet_steps : (events : List Event) (replies : List Reply) → filter_map begun_operation replies ≡ [] →
-    filter_map (λ step. begun_operation step.1) (without_codes (steps_of events replies)) ≡ []
-quiet_steps events [] quiet = refl
-quiet_steps [] (r ∷ rs) quiet = refl
-quiet_steps (e ∷ es) (r ∷ rs) quiet =
-    let parts = no_option (begun_operation r) (filter_map begun_operation rs) quiet in
-    ap (λ o. cons_option o (filter_map (λ step. begun_operation step.1) (without_codes (steps_of es rs)))) parts.0 ∙ quiet_steps es rs parts.1
+pub open-none : (trace : List Step) (step : Step) → open_in (without_codes trace) ≡ [] → begun_operation step.reply ≡ None →
+    open_in (without_codes (trace ++ step ∷ [])) ≡ []
+open-none trace step now none = open-quiet trace step [] now none
 
-pub none_open : (events : List Event) (replies : List Reply) → filter_map begun_operation replies ≡ [] → open_in (without_codes (steps_of events replies)) ≡ []
-none_open events replies quiet =
-    ap (filter (λ k. not (list_any (λ step. ends k step.0) (without_codes (steps_of events replies))))) (quiet_steps events replies quiet)
+open-one : (trace : List Step) (step : Step) (k : ℕ) (ended : Bool) → open_in (without_codes trace) ≡ k ∷ [] → begun_operation step.reply ≡ None → ends k step.event ≡ ended →
+    open_in (without_codes (trace ++ step ∷ [])) ≡ cond (not ended) (k ∷ []) []
+open-one trace step k ended now none is = open-quiet trace step (k ∷ []) now none ∙ ap (λ b. cond (not b) (k ∷ []) []) is
+
+-- an event within an operation leaves it open
+pub open-stays : (trace : List Step) (step : Step) (k : ℕ) → open_in (without_codes trace) ≡ k ∷ [] → begun_operation step.reply ≡ None → ends k step.event ≡ false →
+    open_in (without_codes (trace ++ step ∷ [])) ≡ k ∷ []
+open-stays trace step k now none is = open-one trace step k false now none is
+
+-- the end of an operation leaves none open
+pub open-left : (trace : List Step) (step : Step) (k : ℕ) → open_in (without_codes trace) ≡ k ∷ [] → begun_operation step.reply ≡ None → ends k step.event ≡ true →
+    open_in (without_codes (trace ++ step ∷ [])) ≡ []
+open-left trace step k now none is = open-one trace step k true now none is
+
+-- an operation that was begun, and that no step before ended
+pub open-begun : (trace : List Step) (step : Step) (k : ℕ) → open_in (without_codes trace) ≡ [] → begun_operation step.reply ≡ Some k → ends k step.event ≡ false →
+    list_any (λ (s : Event × Reply). ends k s.0) (without_codes trace) ≡ false → open_in (without_codes (trace ++ step ∷ [])) ≡ k ∷ []
+open-begun trace step k now begun here before =
+    let any : list_any (λ (s : Event × Reply). ends k s.0) (without_codes trace ++ (step.event, step.reply) ∷ []) ≡ false =
+    list_any-push (λ (s : Event × Reply). ends k s.0) (without_codes trace) (step.event, step.reply)
+    ∙ or_from (list_any (λ (s : Event × Reply). ends k s.0) (without_codes trace)) (ends k step.event) before here in
+    open-push trace step
+    ∙ ap (λ ks. filter (λ n. not (ends n step.event)) ks
+    ++ filter (λ n. not (list_any (λ (s : Event × Reply). ends n s.0) (without_codes trace ++ (step.event, step.reply) ∷ []))) (cons_option (begun_operation step.reply) [])) now
+    ∙ ap (λ o. filter (λ n. not (list_any (λ (s : Event × Reply). ends n s.0) (without_codes trace ++ (step.event, step.reply) ∷ []))) (cons_option o [])) begun
+    ∙ ap (λ b. cond (not b) (k ∷ []) []) any
+
+-- What a thread begins now it did not end before.
+pub not_ended : (files : Files) (journal : List Entry) (thread : ℕ) (before trace : List Step) (event : Event) (reply : Reply) (k : ℕ) → IsProper files journal →
+    own_steps code_of journal thread ≡ before ++ trace → IsReply files journal event reply → begun_operation reply ≡ Some k →
+    list_any (λ (s : Event × Reply). ends k s.0) (without_codes trace) ≡ false
+not_ended files journal thread before trace event reply k proper own replied begun =
+    false_from_ne_true (list_any (λ (s : Event × Reply). ends k s.0) (without_codes trace))
+    (λ ended.
+    let entries : without_codes before ++ without_codes trace ≡ own_entries journal thread =
+    sym (map-append (λ (s : Step). (s.event, s.reply)) before trace) ∙ sym (ap without_codes own) ∙ own_steps-entries code_of journal thread in
+    let any : list_any (λ (s : Event × Reply). ends k s.0) (own_entries journal thread) ≡ true =
+    sym (ap (list_any (λ (s : Event × Reply). ends k s.0)) entries)
+    ∙ list_any-append (λ (s : Event × Reply). ends k s.0) (without_codes before) (without_codes trace)
+    ∙ or_right (list_any (λ (s : Event × Reply). ends k s.0) (without_codes before)) (list_any (λ (s : Event × Reply). ends k s.0) (without_codes trace)) ended in
+    let p = parts_any (λ (e : Entry). ends k e.event) journal (ended_own k journal thread any) in
+    let began : PartsAt (λ e. begun_by p.here.thread e ≡ Some k) p.before =
+    within_began p.before p.here.thread k
+    (subst (λ (e : Event). Fits p.before p.here.thread e) (ends-leave k p.here.event p.holds) (proper.fits p.before p.here p.after p.parted)) in
+    let there : PartsAt (λ e. begun_by p.here.thread e ≡ Some k) journal =
+    subst (PartsAt (λ e. begun_by p.here.thread e ≡ Some k)) (sym p.parted)
+    (parts-append (λ e. begun_by p.here.thread e ≡ Some k) p.before (p.here ∷ p.after) began) in
+    let bounds = number_bounds files begun_operation (number-begun files) journal k proper.legal (numbered journal p.here.thread k there) in
+    let most = bounds.1 in
+    let number = (begins files journal event reply k replied begun).number_is in
+    omega arith)

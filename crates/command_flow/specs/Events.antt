@@ -1,6 +1,5 @@
--- The events of commands (own).
-use Rattle.std.specs.Prelude.{Bool, List, Option, Some, None, if◌then◌else◌}
-use Rattle.std.specs.List.{filter_map}
+-- The events of commands, and the images that they name (own).
+use Rattle.std.specs.Prelude.{ℕ, Bool, true, false, Option, Some, None, if◌then◌else◌}
 use Rattle.host_events.specs.declared.event.ContextKind.{ContextKind}
 use Rattle.host_events.specs.declared.event.ContextKind.TheVariants as kinds
 use Rattle.host_events.specs.declared.event.Event.{Event}
@@ -23,7 +22,7 @@ answer_of (script.Image image) = answers.Image image
 answer_of (script.Share context) = answers.Share context
 answer_of script.Nothing = answers.Nothing
 
--- The one event of a command. An operation is more than one event, and is not built yet.
+-- the event of a command that is one event; operations have none here, nor has a command that is not built
 abbrev pub event_of : Command → Option Event
 event_of (commands.New context fixed) = Some (events.New context (kind_of fixed))
 event_of (commands.On context name answer) = Some (events.Rule (places.On context) name (answer_of answer))
@@ -40,6 +39,42 @@ event_of (commands.Alive handle) = Some (events.Alive handle)
 event_of (commands.Unload context) = Some (events.Unload context)
 event_of commands.Collect = Some events.Collect
 
--- the events of the commands that are one event each
-abbrev pub events_of : List Command → List Event
-events_of commands = filter_map event_of commands
+-- a test of whether the command is run
+abbrev pub is_built : Command → Bool
+is_built (commands.New context fixed) = true
+is_built (commands.On context name answer) = true
+is_built (commands.Resolving context name answer) = true
+is_built (commands.Resolve name answer) = true
+is_built (commands.Load context image) = true
+is_built (commands.Bind context name version) = true
+is_built (commands.Call context name type_name method args) = false
+is_built (commands.Hold handle context name type_name method) = false
+is_built (commands.Invoke handle args) = false
+is_built (commands.DropHandle handle) = false
+is_built (commands.Weak handle context) = true
+is_built (commands.Alive handle) = true
+is_built (commands.Unload context) = true
+is_built commands.Collect = true
+
+-- the image that an answer names
+abbrev pub answer_image : ScriptAnswer → Option ℕ
+answer_image (script.Image image) = Some image
+answer_image (script.Share context) = None
+answer_image script.Nothing = None
+
+-- the image that a command names
+abbrev pub named_image : Command → Option ℕ
+named_image (commands.New context fixed) = None
+named_image (commands.On context name answer) = answer_image answer
+named_image (commands.Resolving context name answer) = answer_image answer
+named_image (commands.Resolve name answer) = answer_image answer
+named_image (commands.Load context image) = Some image
+named_image (commands.Bind context name version) = None
+named_image (commands.Call context name type_name method args) = None
+named_image (commands.Hold handle context name type_name method) = None
+named_image (commands.Invoke handle args) = None
+named_image (commands.DropHandle handle) = None
+named_image (commands.Weak handle context) = None
+named_image (commands.Alive handle) = None
+named_image (commands.Unload context) = None
+named_image commands.Collect = None

@@ -1,150 +1,136 @@
--- The meanings of the flow that asks for a thread's commands (own).
-use Rattle.std.specs.Prelude.{ℕ, ◌≡◌, ◌≤◌, ◌<◌, ◌+◌, ◌^◌, List, [], ◌∷◌, ◌++◌, Option, Some, None, All, IsSome, length, map, take, slice_get}
-use Rattle.std.specs.List.{filter_map}
+-- The meanings of the flow of a thread (own).
+use Rattle.std.specs.Prelude.{ℕ, ◌≡◌, ◌<◌, ◌+◌, ◌&&◌, not, Bool, true, false, if◌then◌else◌, List, [], ◌∷◌, ◌++◌, Option, Some, None, IsSome, length, slice_get, sum_by}
+use Rattle.assembly_image.specs.Reading.{FileReading}
+use Rattle.bind_flow.specs.declared.images.ImageCode.{ImageCode}
+use Rattle.bind_flow.specs.Flow.{world_of}
+use Rattle.bind_flow.specs.Images.{reading_at}
+use Rattle.bind_flow.specs.State.{has_published, is_publication}
 use Rattle.host_events.specs.declared.event.Event.{Event}
-use Rattle.host_events.specs.declared.journal.Entry.{Entry}
+use Rattle.host_events.specs.declared.event.Event.TheVariants as events
+use Rattle.host_events.specs.declared.flow.Due.{Due}
+use Rattle.host_events.specs.declared.flow.Due.TheVariants as dues
 use Rattle.host_events.specs.declared.order.CodeOf.{CodeOf}
 use Rattle.host_events.specs.declared.order.Order.{Order}
 use Rattle.host_events.specs.declared.outcome.CommandEnd.{CommandEnd}
-use Rattle.host_events.specs.declared.flow.Due.{Due}
-use Rattle.host_events.specs.declared.flow.Due.TheVariants as dues
-use Rattle.host_events.specs.declared.outcome.Outcome.{Outcome}
-use Rattle.host_events.specs.declared.outcome.Outcome.TheVariants as outcomes
-use Rattle.host_events.specs.declared.reply.Reply.{Reply}
-use Rattle.host_events.specs.Operations.{begun_operation}
-use Rattle.host_events.specs.Files.{no_files}
+use Rattle.host_events.specs.Asking.{IsDue}
 use Rattle.host_events.specs.Flows.{Stand}
-use Rattle.host_events.specs.Journal.{IsProper}
-use Rattle.host_events.specs.Reply.{IsReply}
-use Rattle.host_events.specs.Steps.{Step, step_of, own_steps, without_codes}
+use Rattle.host_events.specs.Operations.{begun_operation, is_command, open_in}
+use Rattle.host_events.specs.Steps.{Step, AgreeWith, without_codes}
 use Rattle.host_script.specs.declared.command.Command.{Command}
-use Rattle.command_flow.specs.declared.code.NoCode.{NoCode}
-use Rattle.command_flow.specs.declared.flow.At.{At}
-use Rattle.command_flow.specs.declared.flow.At.TheVariants as places
-use Rattle.command_flow.specs.Events.{event_of, events_of}
-use Rattle.command_flow.specs.Orders.{order_for}
-use Rattle.command_flow.specs.Run.{RunsThread}
+use Rattle.host_script.specs.declared.command.Command.TheVariants as commands
+use Rattle.command_flow.specs.Events.{named_image}
+use Rattle.command_flow.specs.Orders.{IsOrder}
+use Rattle.command_flow.specs.Run.{RunsThread, most_within, runs_all}
 
--- The commands, the replies so far, and how far the flow is. Contracts see a flow so.
-pub record Thread : Type 0 where
+-- what a thread is to do: its commands, and how the images of the run read
+pub record Plan : Type 0 where
   pub commands : List Command
-  pub replies : List Reply
-  pub at : At
+  pub images : List FileReading
 
--- a flow of these commands that was not yet resumed
-abbrev pub fresh : List Command → Thread
-fresh commands = record { commands = commands; replies = []; at = places.Ready }
+-- The plan, the trace so far, and the stand. Contracts see a flow so.
+pub record Thread : Type 0 where
+  pub plan : Plan
+  pub trace : List Step
+  pub stand : Stand (Order ImageCode)
 
--- the end of a command that is one event
-abbrev pub end_with : Reply → CommandEnd
-end_with reply = record { lines = []; outcome = outcomes.Replied reply }
+-- the image that the command names, if any, is one of these
+abbrev pub HasImage : List FileReading → Command → Type 0
+HasImage images command = (image : ℕ) → named_image command ≡ Some image → IsSome (reading_at images image)
 
--- the reply that an outcome is
-abbrev pub replied : Outcome → Option Reply
-replied (outcomes.Replied reply) = Some reply
-replied (outcomes.Assembly a) = None
-replied (outcomes.Value value) = None
-replied outcomes.Void = None
-replied (outcomes.NotFound name) = None
-replied (outcomes.VersionLow name version) = None
-replied (outcomes.BadImage failed) = None
-replied (outcomes.NameMismatch name) = None
-replied (outcomes.NotCollectible a) = None
-replied (outcomes.NoType name) = None
-replied (outcomes.NoMethod name) = None
-replied (outcomes.NoField name) = None
-replied (outcomes.Ambiguous name) = None
-replied (outcomes.BadMember token) = None
-replied (outcomes.Unsupported feature) = None
-replied (outcomes.VerifyFault token at rule) = None
-replied (outcomes.Threw name) = None
-replied outcomes.Budget = None
-replied outcomes.EventLimit = None
-replied outcomes.Depth = None
-replied outcomes.HeapFull = None
-replied outcomes.TypeDepth = None
-replied outcomes.StaticLong = None
+-- a flow that was not yet resumed
+abbrev pub fresh : Plan → Thread
+fresh plan = record { plan = plan; trace = []; stand = Stand.Fresh }
 
--- the replies that ends tell
-abbrev pub replies_of : List CommandEnd → List Reply
-replies_of ends = filter_map (λ end. replied end.outcome) ends
+-- After the trace the order is that of the event that is due, whatever the assemblies are that the codes tell.
+pub record IsAsked (plan : Plan) (trace : List Step) (order : Order ImageCode) : Type 0 where
+  pub due : (assemblies : ℕ → Option CodeOf) → AgreeWith assemblies trace →
+      IsDue (runs_all (world_of assemblies plan.images) plan.commands) (without_codes trace) order.event
+  pub brings : IsOrder plan.images order
 
--- the steps of events that were answered so
-abbrev pub steps_of : List Event → List Reply → List Step
-steps_of events [] = []
-steps_of [] (reply ∷ replies) = []
-steps_of (event ∷ events) (reply ∷ replies) = step_of event reply None ∷ steps_of events replies
+-- The trace is a whole run of the commands with these ends, whatever the assemblies are that the codes tell.
+abbrev pub IsEnd : Plan → List Step → List CommandEnd → Type 0
+IsEnd plan trace ends =
+    (assemblies : ℕ → Option CodeOf) → AgreeWith assemblies trace →
+    RunsThread plan.commands assemblies plan.images (without_codes trace) ends
 
-abbrev pub trace_of : Thread → List Step
-trace_of flow = steps_of (events_of flow.commands) flow.replies
+-- the most events of a command: an operation makes its first, its last and those within
+abbrev pub most_events : Command → ℕ
+most_events (commands.New context fixed) = 1
+most_events (commands.On context name answer) = 1
+most_events (commands.Resolving context name answer) = 1
+most_events (commands.Resolve name answer) = 1
+most_events (commands.Load context image) = most_within + 2
+most_events (commands.Bind context name version) = most_within + 2
+most_events (commands.Call context name type_name method args) = most_within + 2
+most_events (commands.Hold handle context name type_name method) = most_within + 2
+most_events (commands.Invoke handle args) = most_within + 2
+most_events (commands.DropHandle handle) = 1
+most_events (commands.Weak handle context) = 1
+most_events (commands.Alive handle) = 1
+most_events (commands.Unload context) = 1
+most_events commands.Collect = 1
 
--- The order may be asked after the trace: the trace is of the first events of the commands, and the order is that
--- of the next.
-pub record IsNext (commands : List Command) (trace : List Step) (order : Order NoCode) : Type 0 where
-  pub front : map (λ step. step.event) trace ≡ take (length trace) (events_of commands)
-  pub next : slice_get (events_of commands) (length trace) ≡ Some order.event
-  pub brings : order ≡ order_for order.event
+-- The order by which the thread leaves the operation that is open after the trace: there is room for one event more.
+pub record IsLeave (plan : Plan) (trace : List Step) (order : Order ImageCode) : Type 0 where
+  pub operation : ℕ
+  pub opened : open_in (without_codes trace) ≡ operation ∷ []
+  pub left : order.event ≡ events.Leave operation
+  pub brings : IsOrder plan.images order
+  pub fewer : length trace < sum_by most_events plan.commands
 
--- no reply to these commands names an assembly
-abbrev pub no_code : List Entry → Entry → Option CodeOf
-no_code journal entry = None
+-- how far a thread is: how many of its commands have ended, and the steps of the one under way
+pub record Progress : Type 0 where
+  pub ended : ℕ
+  pub own : List Step
 
--- the thread's last entries in the proper journal are the trace
-pub record IsFitting (trace : List Step) (thread : ℕ) (journal : List Entry) : Type 0 where
-  pub proper : IsProper no_files journal
-  pub before : List Step
-  pub own : own_steps no_code journal thread ≡ before ++ trace
+-- a test of whether the event is the last of its command, where its reply began this operation or none
+abbrev pub is_last_by : Event → Option ℕ → Bool
+is_last_by (events.Enter name) None = true
+is_last_by (events.Enter name) (Some k) = false
+is_last_by (events.EnterHandle handle) None = true
+is_last_by (events.EnterHandle handle) (Some k) = false
+is_last_by (events.Leave operation) begun = true
+is_last_by event begun = is_command event
 
--- the reply and the code come for the order on a journal that fits the trace
-pub record CanCome (trace : List Step) (order : Order NoCode) (reply : Reply) (code : Option CodeOf) : Type 0 where
-  pub thread : ℕ
-  pub journal : List Entry
-  pub fitting : IsFitting trace thread journal
-  pub replied : IsReply no_files journal order.event reply
-  pub no_code : code ≡ None
+-- a test of whether the step is the last of its command
+abbrev pub is_last : Step → Bool
+is_last step = is_last_by step.event (begun_operation step.reply)
 
--- the trace and the ends are a run of the commands, whatever the assemblies are
-abbrev pub IsEnd : List Command → List Step → List CommandEnd → Type 0
-IsEnd commands trace ends =
-    (assemblies : ℕ → Option CodeOf) → RunsThread commands assemblies [] (without_codes trace) ends
+abbrev pub progress_after : Progress → Step → Progress
+progress_after progress step =
+    if is_last step then record { ended = progress.ended + 1; own = [] }
+    else record { ended = progress.ended; own = progress.own ++ step ∷ [] }
 
--- it goes on, where it did not end and had memory
-abbrev pub IsGoing : At → Type 0
-IsGoing places.Ready = Unit {0}
-IsGoing places.Waits = Unit {0}
-IsGoing places.Ended = ⊥
-IsGoing places.WithoutMemory = ⊥
+-- how far a thread is that went on by these steps
+abbrev pub progress_by : Progress → List Step → Progress
+progress_by progress [] = progress
+progress_by progress (step ∷ steps) = progress_by (progress_after progress step) steps
 
--- What the flow's type keeps, where it has given some ends, and its other ends are in a list that has room for so many
--- in all: the ends are those of commands that are one event each, no reply began an operation, and there is room
--- for the ends of all commands until the ends are given.
-pub record IsKeptUp (commands : List Command) (given ends : List CommandEnd) (capacity : ℕ) (at : At) : Type 0 where
-  pub few : length commands < 2 ^ 32
-  pub built : All (λ command. IsSome (event_of command)) commands
-  pub told : given ++ ends ≡ map end_with (replies_of (given ++ ends))
-  pub within : length (given ++ ends) ≤ length commands
-  pub waits : at ≡ places.Waits → length (given ++ ends) < length commands
-  pub quiet : filter_map begun_operation (replies_of (given ++ ends)) ≡ []
-  pub held : IsGoing at → given ≡ []
-  pub room : IsGoing at → length commands ≤ capacity
+abbrev pub progress_of : List Step → Progress
+progress_of trace = progress_by (record { ended = 0; own = [] }) trace
 
--- what the event is that was asked for: it is that of the command after those that were answered
-abbrev pub due_with : At → ℕ → Due
-due_with places.Ready answered = dues.Plain
-due_with places.Waits answered = dues.Command (answered + 1)
-due_with places.Ended answered = dues.Plain
-due_with places.WithoutMemory answered = dues.Plain
+-- a test of whether the command is a bind
+abbrev pub is_bind : Option Command → Bool
+is_bind (Some (commands.Bind context name version)) = true
+is_bind _ = false
+
+-- what the event is that is due after so many commands and these steps of the one under way
+abbrev pub due_own : List Command → ℕ → List Step → Event → Due
+due_own commands ended [] event = dues.Command (ended + 1)
+due_own commands ended (step ∷ steps) event =
+    if is_publication event && not (has_published (step ∷ steps)) && is_bind (slice_get commands ended)
+    then dues.Publish else dues.Plain
+
+-- What the event is that is due after this progress: the first of the command of a number, counted from 1, the first
+-- publication of a bind, or neither of these.
+abbrev pub due_at : List Command → Progress → Event → Due
+due_at commands progress event = due_own commands progress.ended progress.own event
+
+abbrev pub due_with : List Command → List Step → Stand (Order ImageCode) → Due
+due_with commands trace Stand.Fresh = dues.Plain
+due_with commands trace (Stand.Waiting order) = due_at commands (progress_of trace) order.event
+due_with commands trace Stand.Ended = dues.Plain
+due_with commands trace Stand.WithoutMemory = dues.Plain
 
 abbrev pub due_of : Thread → Due
-due_of flow = due_with flow.at (length flow.replies)
-
--- the order that the flow waits for is the one of the next event
-abbrev pub stand_with : At → Option Event → Stand (Order NoCode)
-stand_with places.Ready next = Stand.Fresh
-stand_with places.Waits None = Stand.Ended
-stand_with places.Waits (Some event) = Stand.Waiting (order_for event)
-stand_with places.Ended next = Stand.Ended
-stand_with places.WithoutMemory next = Stand.WithoutMemory
-
-abbrev pub stand_of : Thread → Stand (Order NoCode)
-stand_of flow = stand_with flow.at (slice_get (events_of flow.commands) (length flow.replies))
+due_of flow = due_with flow.plan.commands flow.trace flow.stand

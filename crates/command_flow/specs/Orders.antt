@@ -1,11 +1,13 @@
--- The order of an event that is a command by itself (own).
-use Rattle.std.specs.Prelude.{ℕ, List, [], None}
+-- The orders of a thread (own).
+use Rattle.std.specs.Prelude.{ℕ, ◌≡◌, List, []}
+use Rattle.assembly_image.specs.Reading.{FileReading}
+use Rattle.bind_flow.specs.declared.images.ImageCode.{ImageCode}
+use Rattle.bind_flow.specs.Flow.{BringsCode}
 use Rattle.host_events.specs.declared.event.Event.{Event}
 use Rattle.host_events.specs.declared.event.Event.TheVariants as events
 use Rattle.host_events.specs.declared.order.Order.{Order}
 use Rattle.host_events.specs.declared.order.Room.{Room}
 use Rattle.host_events.specs.Reserved.{sealed}
-use Rattle.command_flow.specs.declared.code.NoCode.{NoCode}
 
 -- the most contexts of a host, with the one of `default`
 abbrev pub most_contexts : ℕ
@@ -40,12 +42,10 @@ room_with count = record {
   third = sealed [];
 }
 
--- the event twice, no code, and room for the numbers that the reply may list, for the entry and for the answer
-abbrev pub order_for : Event → Order NoCode
-order_for event = record {
-  event = event;
-  again = event;
-  code = None;
-  room = room_with (numbers_of event);
-  copy = room_with (numbers_of event);
-}
+-- The order brings what its event needs: the event twice, the code of what it publishes, and room for the numbers
+-- that the reply may list, for the entry and for the answer.
+pub record IsOrder (images : List FileReading) (order : Order ImageCode) : Type 0 where
+  pub same : order.again ≡ order.event
+  pub coded : BringsCode images order.event order.code
+  pub room : order.room ≡ room_with (numbers_of order.event)
+  pub copy : order.copy ≡ room_with (numbers_of order.event)

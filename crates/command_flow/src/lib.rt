@@ -2,13 +2,11 @@
 //! other, and ends with how each command ended.
 #![tactic(auto)]
 
-mod code;
 mod flow;
 mod laws;
 mod order;
-#[cfg(test)]
-mod tests;
+mod run;
+mod turn;
 
-pub use code::NoCode;
-pub use flow::{At, ThreadFlow};
-pub use laws::{commands_in_order, one_end};
+pub use flow::ThreadFlow;
+pub use laws::{commands_in_order, due_events_fit, one_end};

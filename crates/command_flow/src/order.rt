@@ -1,37 +1,126 @@
-//! The orders of commands that are one event each.
-ghost use Rattle.std.specs.Prelude.{◌≡◌, Some, IfOk, IsSome};
-ghost use Rattle.command_flow.specs.Events.{answer_of, event_of, kind_of};
-ghost use Rattle.command_flow.specs.Orders.{numbers_of, order_for, room_with};
+//! The orders of a thread.
+ghost use Rattle.std.specs.Prelude.{◌≡◌, Some, true, IfOk, IsSome};
+ghost use Rattle.std.specs.Option.{option_map};
+ghost use Rattle.assembly_image.specs.Names.{assembly_name};
+ghost use Rattle.assembly_image.specs.Reading.{module_of};
+ghost use Rattle.host_events.specs.declared.event.Event.TheVariants as events;
+ghost use Rattle.bind_flow.specs.Images.{reading_at};
+ghost use Rattle.command_flow.specs.Events.{answer_of, is_built, kind_of};
+ghost use Rattle.command_flow.specs.Orders.{numbers_of, room_with};
+ghost use Rattle.command_flow.specs.Turns.{IsLoad, first_event, order_for, publication, refused};
 
-use crate::code::NoCode;
-use host_events::{ContextKind, Event, Numbers, Order, Room, RuleAnswer, RuleAt, Text};
+use assembly_image::AssemblyImage;
+use assembly_name::SimpleName;
+use bind_flow::{ImageCode, ImageReading, Images};
+use cli_words::{CheckCode, FailedCheck};
+use host_events::{Candidate, ContextKind, Event, Numbers, Order, Room, RuleAnswer, RuleAt, Text};
 use host_script::{Command, ScriptAnswer};
 use std::alloc::{AllocError, Global};
+use std::sync::Arc;
 
 /// The most contexts of a host, with the one of `default`.
 const MOST_CONTEXTS: u32 = 1088;
 
-/// The order of a command that is one event.
-pub(crate) fn order_of(alloc: Global, command: &Command) -> Result<Order<NoCode>, AllocError>
-    requires { IsSome (event_of command.now) }
-    ensures event { IfOk result (λ order. event_of command.now ≡ Some order.event) }
+/// The most bytes of an image.
+const IMAGE_LIMIT: u32 = 4_194_304;
+
+/// The order of the first event of a command.
+pub fn first_order(alloc: Global, command: &Command) -> Result<Order<ImageCode>, AllocError>
+    requires { is_built command.now ≡ true }
+    ensures event { IfOk result (λ order. first_event command.now ≡ Some order.event) }
     ensures order { IfOk result (λ order. order ≡ order_for order.event) }
 {
-    let event = event_of(alloc, command)?;
+    let event = first_event(alloc, command)?;
     let numbers = numbers_of(&event);
     Ok(Order {
         event,
-        again: event_of(alloc, command)?,
+        again: first_event(alloc, command)?,
         code: None,
         room: room_with(alloc, numbers)?,
         copy: room_with(alloc, numbers)?,
     })
 }
 
-/// The event of a command that is one event.
-fn event_of(alloc: Global, command: &Command) -> Result<Event, AllocError>
-    requires { IsSome (event_of command.now) }
-    ensures { IfOk result (λ event. event_of command.now ≡ Some event) }
+/// The order by which a thread leaves an operation.
+pub fn leave_order(alloc: Global, operation: u32) -> Order<ImageCode>
+    ensures { result ≡ order_for (events.Leave operation) }
+{
+    Order {
+        event: Event::Leave { operation },
+        again: Event::Leave { operation },
+        code: None,
+        room: no_room(alloc),
+        copy: no_room(alloc),
+    }
+}
+
+/// The order by which an image is published in a context under its own name.
+pub fn load_order(
+    alloc: Global,
+    images: &Images,
+    context: u32,
+    image: u32,
+) -> Result<Order<ImageCode>, AllocError>
+    requires there { IsSome (reading_at images.now image) }
+    requires good { option_map refused (reading_at images.now image) ≡ Some None }
+    ensures { IfOk result (IsLoad images.now context image) }
+{
+    match images.reading(image) {
+        Some(ImageReading::Good(shared)) => Ok(Order {
+            event: publication(alloc, shared, context, image)?,
+            again: publication(alloc, shared, context, image)?,
+            code: Some(ImageCode {
+                image,
+                context,
+                shared: Arc::try_clone(shared)?,
+            }),
+            room: no_room(alloc),
+            copy: no_room(alloc),
+        }),
+        _ => unreachable!(),
+    }
+}
+
+/// The publication of an image under its own name.
+fn publication(
+    alloc: Global,
+    shared: &AssemblyImage,
+    context: u32,
+    image: u32,
+) -> Result<Event, AllocError>
+    ensures { IfOk result (λ event. event ≡ publication (module_of shared.now) context image) }
+{
+    Ok(Event::Publish {
+        context,
+        name: shared.name().share(alloc)?,
+        candidate: Candidate::Image(image),
+    })
+}
+
+/// Why the file of an image is refused, if it is no image.
+pub fn refused(images: &Images, image: u32) -> Option<FailedCheck>
+    requires { IsSome (reading_at images.now image) }
+    ensures { option_map refused (reading_at images.now image) ≡ Some result }
+{
+    match images.reading(image) {
+        Some(ImageReading::Absent) => Some(FailedCheck {
+            code: CheckCode::Absent,
+            at: 0,
+        }),
+        Some(ImageReading::TooLong) => Some(FailedCheck {
+            code: CheckCode::TooLong,
+            at: IMAGE_LIMIT,
+        }),
+        Some(ImageReading::Bad(failed)) => Some(*failed),
+        Some(ImageReading::Good(_)) => None,
+        None => unreachable!(),
+    }
+}
+
+/// The first event of a command: its one event, or that by which its operation begins.
+fn first_event(alloc: Global, command: &Command) -> Result<Event, AllocError>
+    requires { is_built command.now ≡ true }
+    ensures { IfOk result (λ event. first_event command.now ≡ Some event) }
 {
     match command {
         Command::New { context, fixed } => Ok(Event::New {
@@ -61,6 +150,9 @@ fn event_of(alloc: Global, command: &Command) -> Result<Event, AllocError>
             name: name.share(alloc)?,
             answer: answer_of(alloc, answer)?,
         }),
+        Command::Load { context, .. } | Command::Bind { context, .. } => Ok(Event::Enter {
+            name: context.share(alloc)?,
+        }),
         Command::Weak { handle, context } => Ok(Event::Weak {
             handle: handle.share(alloc)?,
             name: context.share(alloc)?,
@@ -72,9 +164,7 @@ fn event_of(alloc: Global, command: &Command) -> Result<Event, AllocError>
             name: context.share(alloc)?,
         }),
         Command::Collect => Ok(Event::Collect),
-        Command::Load { .. }
-        | Command::Bind { .. }
-        | Command::Call { .. }
+        Command::Call { .. }
         | Command::Hold { .. }
         | Command::Invoke { .. }
         | Command::DropHandle { .. } => unreachable!(),
@@ -121,4 +211,16 @@ fn room_with(alloc: Global, numbers: u32) -> Result<Room, AllocError>
         second: Text::new(alloc, 0)?,
         third: Text::new(alloc, 0)?,
     })
+}
+
+/// No room for a list or a text.
+fn no_room(alloc: Global) -> Room
+    ensures { result ≡ room_with 0 }
+{
+    Room {
+        numbers: Numbers::of(Vec::new(alloc)),
+        first: Text::of(Vec::new(alloc)),
+        second: Text::of(Vec::new(alloc)),
+        third: Text::of(Vec::new(alloc)),
+    }
 }

@@ -10,10 +10,17 @@ use std::test::Fail;
 /// Room for each output of these tests.
 const ROOM: usize = 8_388_608;
 
-/// Files of which one, `F`, is held, where there are bytes for it. The read of this number fails,
-/// counted from 1.
-fn files(alloc: Global, held: Option<&[u8]>, fail_at: u64) -> Result<MemFiles, AllocError> {
-    let mut files = Vec::new(alloc);
+/// Paths with what is held there.
+pub(super) type Held = Vec<(String, Vec<u8>)>;
+
+/// These files, and `F`, where there are bytes for it. The read of this number fails, counted from 1.
+fn files(
+    alloc: Global,
+    held: Option<&[u8]>,
+    others: Held,
+    fail_at: u64,
+) -> Result<MemFiles, AllocError> {
+    let mut files = others;
     if let Some(bytes) = held {
         let path = String::from_str(alloc, "F")?;
         files.push((path, bytes.to_vec(alloc)?))?;
@@ -35,16 +42,18 @@ fn words(alloc: Global, line: &str) -> Result<Vec<String>, AllocError> {
     Ok(words)
 }
 
-/// The answer to these words where `F` is held so, and what was written of at most so many bytes.
+/// The answer to these words where `F` is held so, beside other files, and what was written of at most
+/// so many bytes.
 fn answer(
     alloc: Global,
     line: &str,
     held: Option<&[u8]>,
+    others: Held,
     fail_at: u64,
     room: usize,
 ) -> Result<(Status, Vec<u8>), AllocError> {
     let asked = words(alloc, line)?;
-    let mut files = files(alloc, held, fail_at)?;
+    let mut files = files(alloc, held, others, fail_at)?;
     let mut out = MemSink::new(alloc, room)?;
     let status = alc_alone(alloc, &asked, &mut files, &mut out);
     Ok((status, out.written))
@@ -58,9 +67,24 @@ pub(super) fn comes_to(
     status: Status,
     text: &str,
 ) -> Result<bool, AllocError> {
-    let (found, written) = answer(alloc, line, held, 0, ROOM)?;
+    comes_to_over(alloc, line, held, Vec::new(alloc), status, text)
+}
+
+/// The same, where other files are held too.
+pub(super) fn comes_to_over(
+    alloc: Global,
+    line: &str,
+    held: Option<&[u8]>,
+    others: Held,
+    status: Status,
+    text: &str,
+) -> Result<bool, AllocError> {
+    let (found, written) = answer(alloc, line, held, others, 0, ROOM)?;
     Ok(found == status && written.as_slice() == text.as_bytes())
 }
+
+/// A script of one image, whose file is read once.
+const IMAGE: &[u8] = b"image a x.dll\nthread";
 
 #[test]
 fn devices_that_fail_are_told(rt: HostRuntime) -> Result<(), Fail> {
@@ -79,6 +103,15 @@ fn devices_that_fail_are_told(rt: HostRuntime) -> Result<(), Fail> {
             "alc 1\nthre",
         ),
         ("steps F 0", Some(LIFE), 2, 0, Status::WriteFault, ""),
+        ("steps F 0", Some(IMAGE), 2, ROOM, Status::ReadFault, ""),
+        (
+            "steps F 0",
+            Some(IMAGE),
+            3,
+            ROOM,
+            Status::Done,
+            "alc 1\nthread 1\njournal 0\nend\n",
+        ),
         ("inspect F", Some(lib), 1, ROOM, Status::ReadFault, ""),
         ("inspect F", None, 1, ROOM, Status::ReadFault, ""),
         (
@@ -91,7 +124,8 @@ fn devices_that_fail_are_told(rt: HostRuntime) -> Result<(), Fail> {
         ),
         ("inspect F", Some(lib), 2, 0, Status::WriteFault, ""),
     ] {
-        let (status, written) = answer(rt.alloc(), line, held, fail_at, room)?;
+        let others = Vec::new(rt.alloc());
+        let (status, written) = answer(rt.alloc(), line, held, others, fail_at, room)?;
         assert!(rt;
             status == want && written.as_slice() == text.as_bytes(),
             "{line}"

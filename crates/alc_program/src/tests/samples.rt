@@ -36,6 +36,9 @@ const REL: &str = "inspect 1\nassembly \"Plugin\" 1.2.0.0\nref \"System.Runtime\
 /// What `cksum` prints of `examples/lib.dll`, the first sample: its CRC, and how many bytes it has.
 const LIB_DLL: (u32, usize) = (1_965_012_546, 2_048);
 
+/// The same of `examples/lib2.dll`, the second sample.
+const LIB2_DLL: (u32, usize) = (3_681_931_452, 2_048);
+
 // The CRC of `cksum` after one byte more.
 fn crc_after(crc: u32, byte: u8) -> u32 {
     let mut next = crc ^ (u32::from(byte) << 24);
@@ -72,7 +75,11 @@ pub(super) fn made(alloc: Global, module: &Module) -> Option<Vec<u8>> {
     }
 }
 
-fn sample_image(alloc: Global, which: SampleName) -> Result<Option<Vec<u8>>, AllocError> {
+/// The image of a sample.
+pub(super) fn sample_image(
+    alloc: Global,
+    which: SampleName,
+) -> Result<Option<Vec<u8>>, AllocError> {
     let module = sample(alloc, which)?;
     Ok(made(alloc, &module))
 }
@@ -100,8 +107,10 @@ fn inspects_samples(rt: HostRuntime) -> Result<(), Fail> {
 }
 
 #[test]
-fn lib_dll_is_the_first_sample(rt: HostRuntime) -> Result<(), Fail> {
-    let image = sample_image(rt.alloc(), SampleName::Lib1)?.ok_or("no image")?;
-    assert!(rt; (crc_of(&image), image.len()) == LIB_DLL);
+fn the_examples_are_samples(rt: HostRuntime) -> Result<(), Fail> {
+    for (which, told) in [(SampleName::Lib1, LIB_DLL), (SampleName::Lib2, LIB2_DLL)] {
+        let image = sample_image(rt.alloc(), which)?.ok_or("no image")?;
+        assert!(rt; (crc_of(&image), image.len()) == told);
+    }
     Ok(())
 }

@@ -80,8 +80,8 @@ fn refuses_what_it_cannot_run(rt: HostRuntime) -> Result<(), Fail> {
         (Some(long.as_slice()), 0, LineCause::TooLong),
         (long.as_slice().get(1..), 1, LineCause::UnknownWord),
         (
-            Some(b"image a x\nthread".as_slice()),
-            1,
+            Some(b"image a x\nthread\ncall P N T M\ndrop h".as_slice()),
+            3,
             LineCause::NotBuilt,
         ),
         (
@@ -97,6 +97,24 @@ fn refuses_what_it_cannot_run(rt: HostRuntime) -> Result<(), Fail> {
         (
             Some(b"thread\ncollect\nthread\nbind P x 1.0.0.0"),
             4,
+            LineCause::NotBuilt,
+        ),
+        (
+            Some(b"image a x\nthread\nload P a\nthread\nnew P\ncollect\nhold h P N T M"),
+            6,
+            LineCause::NotBuilt,
+        ),
+        (
+            Some(b"thread\nhold h P N T M\ncollect\nthread\nbind P x 1.0.0.0"),
+            2,
+            LineCause::NotBuilt,
+        ),
+        (
+            Some(
+                b"image l lib1.dll\nthread\nnew P\nnew Q\nload Q l\non P Lib share Q\n\
+                bind P Lib 0.0.0.0\nthread\nunload Q\ncollect",
+            ),
+            10,
             LineCause::NotBuilt,
         ),
     ] {

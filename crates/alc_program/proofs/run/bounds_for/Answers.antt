@@ -3,7 +3,7 @@ use Rattle.std.proofs.lemmas.List.{take_all}
 use Rattle.host_core.specs.declared.bounds.Share.{Share}
 use Rattle.host_core.specs.Bounds.{CanSum}
 use Rattle.alc_program.specs.Shares.{share_for}
-use Rattle.alc_program.proofs.RunLemmas.{can_sum, length-le_sum}
+use Rattle.alc_program.proofs.RunLemmas.{can_sum}
 use Rattle.alc_program.proofs.run.bounds_for.Goals as goal
 
 pub of-requires : goal.of-requires

@@ -1,11 +1,11 @@
-use Rattle.std.proofs.Common.{◌≡◌, ◌++◌, ◌∷◌, [], length, map, Some, refl, sym, ap, ◌∙◌, arith}
-use Rattle.std.specs.List.{slice_get}
+use Rattle.std.proofs.Common.{◌≡◌, ◌++◌, ◌∷◌, [], length, map, refl, sym, ap, ◌∙◌, arith, rules}
 use Rattle.std.proofs.lemmas.List.{map-append}
 use Rattle.std.proofs.lemmas.Option.{slice_get_read}
 use Rattle.std.proofs.lemmas.Iterator.Adapters.{YieldsList-from_vec}
 use Rattle.std.proofs.lemmas.Iterator.Consumers.{YieldsList-turn}
+use Rattle.std.specs.Arc.{arc_value}
 use Rattle.command_flow.specs.Flow.{fresh}
-use Rattle.alc_program.specs.Good.{commands_of}
+use Rattle.alc_program.specs.Good.{plan_of}
 use Rattle.alc_program.proofs.RunLemmas.{commands-length, found_length}
 use Rattle.alc_program.proofs.run.flows_for.Goals as goal
 
@@ -23,7 +23,11 @@ new-requires-clause-few c =
 
 pub loop-lines-preserved : goal.loop-lines-preserved
 loop-lines-preserved c =
+    let images : arc_value c.in_ok-try_clone.field-0 ≡ arc_value c.args.images.now = search rules in
+    let flow : c.in_ok-new.field-0 ≡ fresh (plan_of (arc_value c.args.images.now) c.in-Some.lines) =
+    c.in_ok-new.ensures ∙ ap (λ cs. fresh (record { commands = cs; images = arc_value c.in_ok-try_clone.field-0 })) c.in_ok-commands.ensures
+    ∙ ap (λ is. fresh (plan_of is c.in-Some.lines)) images in
     c.in_ok-push.ensures.items
     ∙ ap (λ fs. fs ++ c.in_ok-new.field-0 ∷ []) c.loop-lines.invariant
-    ∙ ap (λ f. map (λ lines. fresh (commands_of lines)) c.loop-lines.yielded ++ f ∷ []) (c.in_ok-new.ensures ∙ ap fresh c.in_ok-commands.ensures)
-    ∙ sym (map-append (λ lines. fresh (commands_of lines)) c.loop-lines.yielded (c.in-Some.lines ∷ []))
+    ∙ ap (λ f. map (λ lines. fresh (plan_of (arc_value c.args.images.now) lines)) c.loop-lines.yielded ++ f ∷ []) flow
+    ∙ sym (map-append (λ lines. fresh (plan_of (arc_value c.args.images.now) lines)) c.loop-lines.yielded (c.in-Some.lines ∷ []))

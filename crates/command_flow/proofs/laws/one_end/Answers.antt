@@ -1,5 +1,4 @@
-use Rattle.command_flow.proofs.RunLemmas.{one_end_each}
-use Rattle.command_flow.proofs.FlowLemmas as flows
+use Rattle.command_flow.proofs.OrderLemmas.{one_end_each}
 use Rattle.command_flow.proofs.laws.one_end.Goals as goal
 
 pub returns : goal.returns
