@@ -19,9 +19,9 @@ use Rattle.metadata_tables.specs.Tables as tables
 use Rattle.metadata_tables.specs.Layout.{count_of, column_at}
 use Rattle.assembly_image.specs.Cells.{bytes_in, value_at}
 
--- the most bytes of a string (own)
-abbrev pub string_limit : ℕ
-string_limit = 1023
+-- how many bytes the longest string has, without its zero (own)
+abbrev pub longest_string : ℕ
+longest_string = 1023
 
 -- the row that a coded index names is 0 or one of its table's
 abbrev pub has_target : Layout → Option (ℕ × ℕ) → Bool
@@ -56,7 +56,7 @@ is_in_order layout (Coded index) before value = true
 -- a string ends with a zero, is not too long, and is UTF-8
 abbrev pub is_string : List ℕ → Option Span → Bool
 is_string bytes None = false
-is_string bytes (Some span) = nat_le span.len string_limit && is_utf8 (cut bytes span)
+is_string bytes (Some span) = nat_le span.len longest_string && is_utf8 (cut bytes span)
 
 abbrev pub is_text : List ℕ → Root → Column → ℕ → Bool
 is_text bytes root Strings index = is_string bytes (string_at bytes root.strings index)

@@ -14,13 +14,13 @@ use Rattle.assembly_image.specs.declared.members.Member.TheVariants.{Field, Meth
 use Rattle.assembly_image.specs.Names.{has_type}
 use Rattle.assembly_image.specs.Reading.{module_of}
 
--- the rows of a list that begins in a column of a type's row and ends where that of the next type begins,
--- or with the table
+-- the row after a list that begins in a column of a type's row: where that of the next type begins, or right
+-- after the table
 abbrev pub after_list : Module → ℕ → ℕ → ℕ → ℕ
 after_list m table row k =
     if nat_lt row (count m tables.type_def) then number m tables.type_def (row + 1) k else count m table + 1
 
--- its first row and the row after its last; 0 and 0 where there is no such type
+-- the first row of the list and the row after it; 0 and 0 where there is no such type
 abbrev pub list_range : Module → ℕ → ℕ → ℕ → Range ℕ
 list_range m table row k =
     if has_type m row then record { start = number m tables.type_def row k; end = after_list m table row k }
@@ -32,28 +32,30 @@ list_of m table row k =
     let first = number m tables.type_def row k in
     if has_type m row then range_with_len first (after_list m table row k - first) else []
 
--- the list of a type has the row
+-- a test of whether the list of a type has row n
 abbrev pub has_in_list : Module → ℕ → ℕ → ℕ → ℕ → Bool
 has_in_list m table k n row = nat_le (number m tables.type_def row k) n && nat_lt n (after_list m table row k)
 
--- the table of the members of a kind, the column of a type in which their list begins, and the column of
--- their names (II.22.15, II.22.26, II.22.37)
+-- the table of the members of a kind (II.22.15, II.22.26)
 abbrev pub table_of : Member → ℕ
 table_of Field = tables.field
 table_of Method = tables.method_def
 
+-- the column of a type's row in which the list of these members begins (II.22.37)
 abbrev pub list_of_kind : Member → ℕ
 list_of_kind Field = tables.type_def_field_list
 list_of_kind Method = tables.type_def_method_list
 
+-- the column of their names
 abbrev pub name_of_kind : Member → ℕ
 name_of_kind Field = tables.field_name
 name_of_kind Method = tables.method_def_name
 
--- the members of a type, their first row and the row after the last
+-- the rows of the members of a type
 abbrev pub members_of : Module → Member → ℕ → List ℕ
 members_of m kind row = list_of m (table_of kind) row (list_of_kind kind)
 
+-- the first of these rows and the row after the last
 abbrev pub member_range : Module → Member → ℕ → Range ℕ
 member_range m kind row = list_range m (table_of kind) row (list_of_kind kind)
 
@@ -68,6 +70,7 @@ abbrev pub type_of_member : Module → Member → ℕ → Option ℕ
 type_of_member m kind n =
     find (has_in_list m (table_of kind) (list_of_kind kind) n) (range_with_len 1 (count m tables.type_def))
 
+-- the name of a member
 abbrev pub member_name : Module → Member → ℕ → List ℕ
 member_name m kind n = text m (table_of kind) n (name_of_kind kind)
 
@@ -88,13 +91,15 @@ field_of_name m row from name = member_of_name m Field row from name
 abbrev pub method_of_name : Module → ℕ → ℕ → List ℕ → Option ℕ
 method_of_name m row from name = member_of_name m Method row from name
 
--- the flags of a type, a field and a method (II.23.1.15, II.23.1.5, II.23.1.10)
+-- the flags of a type (II.23.1.15)
 abbrev pub type_flags : Module → ℕ → ℕ
 type_flags m row = number m tables.type_def row tables.type_def_flags
 
+-- the flags of a field (II.23.1.5)
 abbrev pub field_flags : Module → ℕ → ℕ
 field_flags m n = number m tables.field n tables.field_flags
 
+-- the flags of a method (II.23.1.10)
 abbrev pub method_flags : Module → ℕ → ℕ
 method_flags m n = number m tables.method_def n tables.method_def_flags
 

@@ -3,13 +3,13 @@ use Rattle.std.specs.Prelude.{◌≡◌, ℕ, ◌+◌, ◌<◌, ◌≤◌, ◌&&
 use Rattle.std.specs.Str.{is_utf8}
 use Rattle.cli_words.specs.declared.span.Span.{Span}
 use Rattle.cli_words.specs.Span.{cut, zero_after}
-use Rattle.assembly_image.specs.Checks.{string_limit}
+use Rattle.assembly_image.specs.Checks.{longest_string}
 use Rattle.assembly_image.specs.declared.texts.Texts.{Texts}
 
 -- the bytes before the zero at this place are a text that is allowed
 abbrev pub is_text_to : List ℕ → Option ℕ → Bool
 is_text_to bytes None = false
-is_text_to bytes (Some len) = nat_le len string_limit && is_utf8 (take len bytes)
+is_text_to bytes (Some len) = nat_le len longest_string && is_utf8 (take len bytes)
 
 -- the bytes begin with such a text
 abbrev pub begins_text : List ℕ → Bool
@@ -17,8 +17,8 @@ begins_text bytes = is_text_to bytes (zero_after bytes)
 
 -- how far the zero at this place is, as far as it matters
 abbrev pub near : Option ℕ → ℕ
-near None = string_limit + 1
-near (Some len) = min len (string_limit + 1)
+near None = longest_string + 1
+near (Some len) = min len (longest_string + 1)
 
 -- the bytes begin with a character of this size, no more than the zero is away, and then with a text
 abbrev pub goes_on : List ℕ → ℕ → ℕ → Bool

@@ -69,7 +69,7 @@ fn table_failed(
     None
 }
 
-/// The first check that fails in a row, which stands right after the one `before`.
+/// The first check that fails in row `n` of a table: `row`, after the row `before`.
 fn row_failed(
     bytes: &[u8],
     root: &Root,
@@ -97,7 +97,7 @@ fn row_failed(
     None
 }
 
-/// The check fails at a column of a row.
+/// The fault of a check that fails: its code, and the place of column `k` of row `n`.
 fn failed_at(tables: &Tables, table: u8, n: u32, k: usize, code: CheckCode) -> FailedCheck
     requires has_row { IsTrue (has_row tables.now table n) }
     requires has_column { k < length (columns_of table) }
@@ -107,7 +107,8 @@ fn failed_at(tables: &Tables, table: u8, n: u32, k: usize, code: CheckCode) -> F
     FailedCheck { code, at }
 }
 
-/// The first check that what stands in a column fails, where `before` stands in the row before.
+/// The code of the first check that fails for a column's value, where the row before has the value
+/// `before` in that column, or 0 where there is none.
 fn value_failed(
     bytes: &[u8],
     root: &Root,

@@ -20,7 +20,7 @@ pub(crate) struct RowIndex {
     pub(crate) next: Vec<u32>,
 }
 
-/// What rows belong to a type by.
+/// By which table, and which of its columns, rows belong to a type.
 #[derive(Clone, Copy)]
 pub(crate) enum Belongs {
     /// The class of a row of InterfaceImpl.
@@ -54,8 +54,8 @@ impl AssemblyImage {
         self.rows_of(alloc, Belongs::Implementation, row)
     }
 
-    /// The rows of GenericParam of a type, in their order: as many as it has parameters. None where
-    /// there is no such type. ECMA-335 II.22.20.
+    /// The rows of GenericParam that a type owns, in their order: one for each of its type
+    /// parameters. None where there is no such type. ECMA-335 II.22.20.
     pub fn type_params(&self, alloc: Global, row: u32) -> Result<Vec<u32>, AllocError>
         ensures { IfOk result (λ rows. rows.items ≡ spec.type_params (module_of self.now) row) }
     {

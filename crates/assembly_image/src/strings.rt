@@ -9,8 +9,8 @@ ghost use Rattle.assembly_image.specs.Checks as spec;
 use cli_words::Span;
 use std::str;
 
-/// The most bytes of a string, with its zero.
-pub(crate) const STRING_LIMIT: usize = 1024;
+/// How many bytes the longest string has, with its zero.
+pub(crate) const LONGEST_WITH_ZERO: usize = 1024;
 
 /// Whether a string that is UTF-8 and not too long stands at an index of the heap. No more bytes
 /// than a string may have are looked at.
@@ -33,7 +33,7 @@ fn zero_within(bytes: &[u8]) -> Option<usize>
     ensures zero { result ≡ zero_after (take 1024 bytes.now) }
     ensures within { IfSome result (λ len. len < length bytes.now) }
 {
-    zero_after(&bytes[..STRING_LIMIT.min(bytes.len())])
+    zero_after(&bytes[..LONGEST_WITH_ZERO.min(bytes.len())])
 }
 
 fn zero_after(bytes: &[u8]) -> Option<usize>

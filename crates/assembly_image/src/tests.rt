@@ -1,8 +1,6 @@
-//! Images written by hand from ECMA-335 II.22, II.24 and II.25, and the checks that they fail.
-ghost use Rattle.std.specs.Prelude.{◌-◌, ◌^◌, ◌<◌, length};
-
+//! Images written by hand from ECMA-335 II.22, II.24 and II.25.
 use crate::{AssemblyImage, ImageFault, Member, read_image};
-use cli_words::{CheckCode, Units};
+use cli_words::Units;
 use metadata_tables::{column, table};
 use std::alloc::{AllocError, Global};
 use std::process::Abort;
@@ -14,7 +12,7 @@ const LENGTH: usize = 0xA00;
 
 /// What stands in an image, by its places; all else is 0. Sections begin at file offsets 200 and
 /// A00, where RVAs 2000 and 4000 are. Four types: `<Module>`, `Lib.C`, D in C and E in D.
-const IMAGE: &[(usize, &[u8])] = &[
+static IMAGE: &[(usize, &[u8])] = &[
     // the DOS header, the PE signature and the file header
     (0, b"MZ"),
     (0x3C, b"\x80"),
@@ -118,34 +116,6 @@ const IMAGE: &[(usize, &[u8])] = &[
     ),
 ];
 
-/// What differs where addresses have 64 bits: directory 14 and the sections stand 16 bytes further.
-const WIDE: &[(usize, &[u8])] = &[
-    (0x94, b"\xF0"),
-    (0x98, b"\x0B\x02"),
-    (0xF4, b"\0"),
-    (0x104, b"\x10"),
-    (0x168, b"\0\0\0\0\0"),
-    (0x178, b"\0\x20\0\0\x48\0\0\0\0\0\0\0\0\0\0\0"),
-    (
-        0x188,
-        b".text\0\0\0\0\x08\0\0\0\x20\0\0\0\x08\0\0\0\x02\0\0\0\0\0\0\0\0\0\0\0\0\0\0",
-    ),
-    (
-        0x1AC,
-        b"\x20\0\0\x60.reloc\0\0\0\0\0\0\0\x40\0\0\0\0\0\0\0\x0A\0\0",
-    ),
-];
-
-/// Rows of Module, of TypeDef and of Assembly.
-const MODULE: &[u8] = b"\0\0\x3D\0\0\0\0\0\0\0";
-
-const TYPE: &[u8] = b"\0\0\0\0\x01\0\0\0\0\0\x01\0\x01\0";
-
-const ASSEMBLY: &[u8] = b"\x04\x80\0\0\x01\0\0\0\0\0\0\0\0\0\0\0\0\0\x0A\0\0\0";
-
-/// The tables Module, TypeDef, Assembly and NestedClass.
-const FOUR_TABLES: u64 = 0x0000_0201_0000_0005;
-
 fn put(rt: &impl Abort, bytes: &mut Vec<u8>, at: usize, part: &[u8]) {
     assert!(rt; at <= bytes.len());
     assert!(rt; part.len() <= bytes.len() - at);
@@ -158,43 +128,18 @@ fn put_all<'a>(rt: &impl Abort, bytes: &mut Vec<u8>, parts: &'a [(usize, &'a [u8
     }
 }
 
-/// The image with these changes.
+/// The image with these changes, and bytes after it.
 fn image_with<'a>(
     rt: &impl Abort,
     alloc: Global,
     changes: &'a [(usize, &'a [u8])],
+    more: &[u8],
 ) -> Result<Vec<u8>, AllocError> {
     let mut bytes = Vec::new(alloc);
     bytes.resize(LENGTH, 0)?;
     put_all(rt, &mut bytes, IMAGE);
     put_all(rt, &mut bytes, changes);
-    Ok(bytes)
-}
-
-/// The image with another stream `#~`, of these tables, counts and rows, at its end.
-fn moved(
-    rt: &impl Abort,
-    alloc: Global,
-    valid: u64,
-    counts: &[u32],
-    rows: &[u8],
-) -> Result<Vec<u8>, AllocError> {
-    let mut stream = [0, 0, 0, 0, 2, 0, 0, 1].to_vec(alloc)?;
-    stream.extend_from_slice(&valid.to_le_bytes())?;
-    stream.extend_from_slice(&[0; 8])?;
-    for count in counts {
-        stream.extend_from_slice(&count.to_le_bytes())?;
-    }
-    stream.extend_from_slice(rows)?;
-    assert!(rt; stream.len() < 0x1000_0000);
-    let len = stream.len() as u32;
-    let mut bytes = image_with(rt, alloc, &[])?;
-    // the section, the metadata, and the stream in it
-    put(rt, &mut bytes, 0x188, &(0x800 + len).to_le_bytes());
-    put(rt, &mut bytes, 0x20C, &(0x7B0 + len).to_le_bytes());
-    put(rt, &mut bytes, 0x270, &0x7B0_u32.to_le_bytes());
-    put(rt, &mut bytes, 0x274, &len.to_le_bytes());
-    bytes.extend_from_slice(&stream)?;
+    bytes.extend_from_slice(more)?;
     Ok(bytes)
 }
 
@@ -204,64 +149,27 @@ fn read(rt: &impl Abort, alloc: Global, bytes: Vec<u8>) -> Result<AssemblyImage,
     read_image(alloc, shared)
 }
 
-/// The first check of each kind, and the byte of which it speaks.
-#[test]
-fn refuses_at_the_first_check(rt: HostRuntime) -> Result<(), Fail> {
-    let rows: &[(&[(usize, &[u8])], CheckCode, u32)] = &[
-        (&[(0x3C, b"\xE9\x09")], CheckCode::Cut, 0xA00),
-        (&[(0, b"Z")], CheckCode::NoMz, 0),
-        (&[(0x83, b"\x01")], CheckCode::NoPe, 0x80),
-        (&[(0x98, b"\x07")], CheckCode::Magic, 0x98),
-        (&[(0x168, b"\0\0")], CheckCode::NoCli, 0x168),
-        (&[(0x208, b"\xFF\x1F")], CheckCode::Outside, 0x208),
-        (&[(0x210, b"\x02")], CheckCode::NotIlOnly, 0x210),
-        (&[(0x250, b"b")], CheckCode::RootSignature, 0x250),
-        (&[(0x280, b"\x99")], CheckCode::Bounds, 0x27C),
-        (&[(0x279, b"-")], CheckCode::EditStream, 0x270),
-        (&[(0x279, b"x")], CheckCode::NoTables, 0x250),
-        (&[(0x2C8, b"\x5F")], CheckCode::Table, 0x2C0),
-        (&[(0x274, b"\x35")], CheckCode::Bounds, 0x2C0),
-        // past the strings, past a table, and a tag that is not in use, before a list that falls
-        (&[(0x312, b"\x54")], CheckCode::Index, 0x312),
-        (&[(0x3F4, b"\x05")], CheckCode::Index, 0x3F4),
-        (&[(0x33C, b"\x03"), (0x33E, b"\0")], CheckCode::Index, 0x33C),
-        (&[(0x35A, b"\x01")], CheckCode::List, 0x35A),
-        (&[(0x34C, b"\x04")], CheckCode::List, 0x34C),
-        (&[(0x44B, b"x")], CheckCode::Text, 0x322),
-        (&[(0x402, b"\xFF")], CheckCode::Text, 0x33A),
-        (&[(0x3D6, b"\0")], CheckCode::NoAssembly, 0x2C0),
-    ];
-    for (n, (changes, code, at)) in rows.iter().enumerate() {
-        let bytes = image_with(&rt, rt.alloc(), changes)?;
-        match read(&rt, rt.alloc(), bytes) {
-            Err(ImageFault::Bad(failed)) => {
-                assert_eq!(rt; (failed.code, failed.at), (*code, *at), "row {n}");
-            }
-            _ => return Err(Fail::new("no check fails")),
-        }
-    }
-    Ok(())
-}
-
 fn sample(rt: &impl Abort, alloc: Global) -> Result<AssemblyImage, ImageFault> {
-    let bytes = image_with(rt, alloc, &[]).map_err(|_| ImageFault::OutOfMemory)?;
+    let bytes = image_with(rt, alloc, &[], &[]).map_err(|_| ImageFault::OutOfMemory)?;
     read(rt, alloc, bytes)
 }
+
+/// Rows of MethodDef, and the number, the text and the length of the blob in a column of each.
+static METHODS: [(u32, usize, u32, &str, usize); 4] = [
+    (2, column::METHOD_DEF_FLAGS, 0x1806, "", 0),
+    (2, column::METHOD_DEF_NAME, 0, ".ctor", 0),
+    (2, column::METHOD_DEF_SIGNATURE, 0, "", 3),
+    (5, column::METHOD_DEF_FLAGS, 0, "", 0),
+];
 
 /// What stands in rows, at a column that holds it and at another.
 #[test]
 fn tells_what_stands_in_rows(rt: HostRuntime) -> Result<(), Fail> {
     let image = sample(&rt, rt.alloc())?;
-    let rows: [(u32, usize, u32, &str, usize); 4] = [
-        (2, column::METHOD_DEF_FLAGS, 0x1806, "", 0),
-        (2, column::METHOD_DEF_NAME, 0, ".ctor", 0),
-        (2, column::METHOD_DEF_SIGNATURE, 0, "", 3),
-        (5, column::METHOD_DEF_FLAGS, 0, "", 0),
-    ];
-    for (n, k, number, text, len) in rows {
-        assert_eq!(rt; image.number(table::METHOD_DEF, n, k), number);
-        assert_eq!(rt; image.text(table::METHOD_DEF, n, k), text);
-        assert_eq!(rt; image.blob(table::METHOD_DEF, n, k).len(), len);
+    for (n, k, number, text, len) in &METHODS {
+        assert!(rt; image.number(table::METHOD_DEF, *n, *k) == *number);
+        assert!(rt; image.text(table::METHOD_DEF, *n, *k) == *text);
+        assert!(rt; image.blob(table::METHOD_DEF, *n, *k).len() == *len);
     }
     Ok(())
 }
@@ -269,28 +177,24 @@ fn tells_what_stands_in_rows(rt: HostRuntime) -> Result<(), Fail> {
 #[test]
 fn tells_its_parts(rt: HostRuntime) -> Result<(), Fail> {
     let image = sample(&rt, rt.alloc())?;
-    let counts = [image.refs(), image.types(), image.fields(), image.methods()];
-    assert_eq!(rt; counts, [1, 4, 2, 4]);
-    let places = [
-        image.bytes().len(),
-        image.pe().root_at,
-        image.root().blobs.at,
-    ];
-    assert_eq!(rt; places, [0xA00, 0x250, 0x464]);
+    assert!(rt; image.refs() == 1 && image.types() == 4);
+    assert!(rt; image.fields() == 2 && image.methods() == 4);
+    assert!(rt; image.bytes().len() == 0xA00);
+    assert!(rt; image.pe().root_at == 0x250 && image.root().blobs.at == 0x464);
     let name = Units::from_utf8(rt.alloc(), b"Lib")?;
-    assert_eq!(rt; image.name().units().units(), name.units());
-    assert_eq!(rt; image.version().revision, 4);
-    assert_eq!(rt; image.tables().count(table::CUSTOM_ATTRIBUTE), 1);
+    assert!(rt; image.name().units().units() == name.units());
+    assert!(rt; image.version().revision == 4);
+    assert!(rt; image.tables().count(table::CUSTOM_ATTRIBUTE) == 1);
     Ok(())
 }
 
 #[test]
 fn tells_flags_and_bodies(rt: HostRuntime) -> Result<(), Fail> {
     let image = sample(&rt, rt.alloc())?;
-    assert_eq!(rt; image.type_flags(2), 0x10_0001);
-    assert_eq!(rt; image.field_flags(1), 0x16);
-    assert_eq!(rt; image.method_flags(2), 0x1806);
-    assert_eq!(rt; image.body_at(2).map(|span| span.at), Some(0x24C));
+    assert!(rt; image.type_flags(2) == 0x10_0001);
+    assert!(rt; image.field_flags(1) == 0x16);
+    assert!(rt; image.method_flags(2) == 0x1806);
+    assert!(rt; image.body_at(2).map(|span| span.at) == Some(0x24C));
     assert!(rt; image.body_at(5).is_none());
     Ok(())
 }
@@ -298,30 +202,30 @@ fn tells_flags_and_bodies(rt: HostRuntime) -> Result<(), Fail> {
 #[test]
 fn tells_references(rt: HostRuntime) -> Result<(), Fail> {
     let image = sample(&rt, rt.alloc())?;
-    assert_eq!(rt; image.reference_name(1), "System.Runtime");
-    assert_eq!(rt; image.reference_version(1).major, 8);
-    assert_eq!(rt; image.token(0x0200_0004), Some((2, 4)));
-    assert_eq!(rt; image.token(0x0200_0005), None);
-    assert_eq!(rt; image.type_ref_scope(1), Some((0x23, 1)));
-    assert_eq!(rt; image.outermost_scope(1), Some((0x23, 1)));
+    assert!(rt; image.reference_name(1) == "System.Runtime");
+    assert!(rt; image.reference_version(1).major == 8);
+    assert!(rt; image.token(0x0200_0004) == Some((2, 4)));
+    assert!(rt; image.token(0x0200_0005).is_none());
+    assert!(rt; image.type_ref_scope(1) == Some((0x23, 1)));
+    assert!(rt; image.outermost_scope(1) == Some((0x23, 1)));
     Ok(())
 }
+
+/// The full names of types.
+static NAMES: [(u32, &[u8]); 3] = [(1, b"<Module>"), (2, b"Lib.C"), (4, b"Lib.C/D/E")];
 
 /// Full names, and types that are found by them.
 #[test]
 fn tells_full_names(rt: HostRuntime) -> Result<(), Fail> {
     let image = sample(&rt, rt.alloc())?;
-    let object = Units::from_utf8(rt.alloc(), b"System.Object")?;
-    assert_eq!(rt;
-        image.type_ref_full_name(rt.alloc(), 1)?.units(),
-        object.units()
-    );
-    let names: [(u32, &[u8]); 3] = [(1, b"<Module>"), (2, b"Lib.C"), (4, b"Lib.C/D/E")];
-    for (row, name) in names {
+    for (row, name) in &NAMES {
         let name = Units::from_utf8(rt.alloc(), name)?;
-        assert_eq!(rt; image.find_type(&name), Some(row));
-        assert_eq!(rt; image.full_name(rt.alloc(), row)?.units(), name.units());
+        assert!(rt; image.find_type(&name) == Some(*row));
+        assert!(rt; image.full_name(rt.alloc(), *row)?.units() == name.units());
     }
+    let object = Units::from_utf8(rt.alloc(), b"System.Object")?;
+    let found = image.type_ref_full_name(rt.alloc(), 1)?;
+    assert!(rt; found.units() == object.units());
     Ok(())
 }
 
@@ -330,32 +234,82 @@ fn tells_full_names(rt: HostRuntime) -> Result<(), Fail> {
 fn tells_members(rt: HostRuntime) -> Result<(), Fail> {
     let image = sample(&rt, rt.alloc())?;
     let methods = image.members(Member::Method, 2);
-    assert_eq!(rt; [methods.start, methods.end], [1, 4]);
-    assert_eq!(rt; image.type_of(Member::Field, 2), Some(3));
+    assert!(rt; methods.start == 1 && methods.end == 4);
+    assert!(rt; image.type_of(Member::Field, 2) == Some(3));
     let get = Units::from_utf8(rt.alloc(), b"Get")?;
-    assert_eq!(rt; image.find_method(2, 2, &get), Some(3));
+    assert!(rt; image.find_method(2, 2, &get) == Some(3));
     let n = Units::from_utf8(rt.alloc(), b"n")?;
-    assert_eq!(rt; image.find_field(2, 0, &n), Some(1));
+    assert!(rt; image.find_field(2, 0, &n) == Some(1));
     Ok(())
 }
 
-/// Three rows of InterfaceImpl, two of them of the first type; no other rows belong to it.
+/// The image with another stream `#~` at its end: the sizes of the section and of the metadata,
+/// and the place and the size of the stream in it.
+static WITH_INTERFACES: [(usize, &[u8]); 3] = [
+    (0x188, b"\x70\x08\0\0"),
+    (0x20C, b"\x20\x08\0\0"),
+    (0x270, b"\xB0\x07\0\0\x70\0\0\0"),
+];
+
+/// A row of Module, two of TypeDef, three of InterfaceImpl and one of Assembly. Two of the three
+/// are of the first type.
+static INTERFACES: &[u8] = b"\0\0\0\0\x02\0\0\x01\x05\x02\0\0\x01\0\0\0\0\0\0\0\0\0\0\0\
+    \x01\0\0\0\x02\0\0\0\x03\0\0\0\x01\0\0\0\
+    \0\0\x3D\0\0\0\0\0\0\0\
+    \0\0\0\0\x01\0\0\0\0\0\x01\0\x01\0\
+    \0\0\0\0\x01\0\0\0\0\0\x01\0\x01\0\
+    \x01\0\x08\0\x02\0\x04\0\x01\0\x04\0\
+    \x04\x80\0\0\x01\0\0\0\0\0\0\0\0\0\0\0\0\0\x0A\0\0\0";
+
+fn is_first_and_third(rows: &[u32]) -> bool {
+    rows == [1, 3].as_slice()
+}
+
+/// Rows of InterfaceImpl; no other rows belong to the type.
 #[test]
 fn tells_rows_of_types(rt: HostRuntime) -> Result<(), Fail> {
-    let mut rows = MODULE.to_vec(rt.alloc())?;
-    rows.extend_from_slice(TYPE)?;
-    rows.extend_from_slice(TYPE)?;
-    rows.extend_from_slice(b"\x01\0\x08\0\x02\0\x04\0\x01\0\x04\0")?;
-    rows.extend_from_slice(ASSEMBLY)?;
-    let bytes = moved(&rt, rt.alloc(), 0x0000_0001_0000_0205, &[1, 2, 3, 1], &rows)?;
+    let bytes = image_with(&rt, rt.alloc(), &WITH_INTERFACES, INTERFACES)?;
     let image = read(&rt, rt.alloc(), bytes)?;
-    assert_eq!(rt;
-        image.interface_impls(rt.alloc(), 1)?.as_slice(),
-        [1, 3].as_slice()
-    );
-    assert_eq!(rt; image.method_impls(rt.alloc(), 1)?.len(), 0);
-    assert_eq!(rt; image.type_params(rt.alloc(), 1)?.len(), 0);
+    let rows = image.interface_impls(rt.alloc(), 1)?;
+    assert!(rt; is_first_and_third(&rows));
+    let others = image.method_impls(rt.alloc(), 1)?;
+    assert!(rt; others.is_empty());
+    let params = image.type_params(rt.alloc(), 1)?;
+    assert!(rt; params.is_empty());
     Ok(())
+}
+
+/// How many types are nested, each in the one before.
+const NESTED: u32 = 170_000;
+
+/// The same changes for the stream of these types.
+static WITH_NESTED: [(usize, &[u8]); 3] = [
+    (0x188, b"\xC8\x49\x3E\0"),
+    (0x20C, b"\x78\x49\x3E\0"),
+    (0x270, b"\xB0\x07\0\0\xC8\x41\x3E\0"),
+];
+
+/// The head of the stream, with its counts, and a row of Module.
+static NESTED_HEAD: &[u8] = b"\0\0\0\0\x02\0\0\x01\x05\0\0\0\x01\x02\0\0\0\0\0\0\0\0\0\0\
+    \x01\0\0\0\x10\x98\x02\0\x01\0\0\0\x10\x98\x02\0\
+    \0\0\x3D\0\0\0\0\0\0\0";
+
+/// A row of TypeDef, whose name is C, and one of Assembly.
+static NESTED_TYPE: &[u8] = b"\0\0\0\0\x0E\0\0\0\0\0\0\0\x01\0\x01\0";
+
+static NESTED_ASSEMBLY: &[u8] = b"\x04\x80\0\0\x01\0\0\0\0\0\0\0\0\0\0\0\0\0\x0A\0\0\0";
+
+fn nested_stream(alloc: Global) -> Result<Vec<u8>, AllocError> {
+    let mut stream = NESTED_HEAD.to_vec(alloc)?;
+    for _ in 0..NESTED {
+        stream.extend_from_slice(NESTED_TYPE)?;
+    }
+    stream.extend_from_slice(NESTED_ASSEMBLY)?;
+    for encloser in 0..NESTED {
+        stream.extend_from_slice(&(encloser + 1).to_le_bytes())?;
+        stream.extend_from_slice(&encloser.to_le_bytes())?;
+    }
+    Ok(stream)
 }
 
 /// A good image of nearly 4 MiB with as many rows of NestedClass as types, of which each stands in
@@ -363,38 +317,26 @@ fn tells_rows_of_types(rt: HostRuntime) -> Result<(), Fail> {
 /// is not named.
 #[test]
 fn reads_as_many_nestings_as_types(rt: HostRuntime) -> Result<(), Fail> {
-    let types = 170_000_u32;
-    let mut rows = MODULE.to_vec(rt.alloc())?;
-    for _ in 0..types {
-        // its name is C
-        rows.extend_from_slice(b"\0\0\0\0\x0E\0\0\0\0\0\0\0\x01\0\x01\0")?;
-    }
-    rows.extend_from_slice(ASSEMBLY)?;
-    for nested in 1..=types {
-        rows.extend_from_slice(&nested.to_le_bytes())?;
-        rows.extend_from_slice(&(nested - 1).to_le_bytes())?;
-    }
-    let bytes = moved(&rt, rt.alloc(), FOUR_TABLES, &[1, types, 1, types], &rows)?;
-    assert!(rt; bytes.len() < 4_194_304);
+    let stream = nested_stream(rt.alloc())?;
+    let bytes = image_with(&rt, rt.alloc(), &WITH_NESTED, &stream)?;
     let image = read(&rt, rt.alloc(), bytes)?;
-    assert_eq!(rt; image.encloser(types), Some(types - 1));
-    let full = image.full_name(rt.alloc(), types)?;
-    assert_eq!(rt; full.units().len(), 33);
-    assert_eq!(rt; image.find_type(&full), Some(17));
+    assert!(rt; image.encloser(NESTED) == Some(NESTED - 1));
+    let full = image.full_name(rt.alloc(), NESTED)?;
+    assert!(rt; full.units().len() == 33);
+    assert!(rt; image.find_type(&full) == Some(17));
     Ok(())
 }
 
 #[test]
 fn images_cross_threads(rt: HostRuntime) -> Result<(), Fail> {
-    let mine = read(&rt, rt.alloc(), image_with(&rt, rt.alloc(), &[])?)?;
-    let theirs = read(&rt, rt.alloc(), image_with(&rt, rt.alloc(), WIDE)?)?;
+    let mine = sample(&rt, rt.alloc())?;
+    let theirs = sample(&rt, rt.alloc())?;
     let shared = &mine;
     let (first, second) = thread::join(
         &rt,
-        move || [theirs.types(), shared.fields()],
+        move || theirs.types() == 4 && shared.fields() == 2,
         || shared.methods(),
     );
-    assert_eq!(rt; first, [4, 2]);
-    assert_eq!(rt; second, 4);
+    assert!(rt; first && second == 4);
     Ok(())
 }

@@ -7,7 +7,7 @@ ghost use Rattle.assembly_image.specs.Checks as spec;
 ghost use Rattle.assembly_image.specs.Texts.{AreTexts, AreStartsFrom, begins_text, begins_wide};
 ghost use Rattle.assembly_image.specs.Texts.{goes_on, near};
 
-use crate::strings::{STRING_LIMIT, is_string, is_utf8};
+use crate::strings::{LONGEST_WITH_ZERO, is_string, is_utf8};
 use cli_words::Span;
 use std::alloc::{AllocError, Global};
 
@@ -56,7 +56,7 @@ fn find_starts(alloc: Global, heap: &[u8]) -> Result<Vec<bool>, AllocError>
     ensures { IfOk result (λ starts. AreStartsFrom heap.now starts.items 0) }
 {
     let mut starts = vec![in alloc; false; heap.len()]?;
-    let mut len = STRING_LIMIT;
+    let mut len = LONGEST_WITH_ZERO;
     for after in 0..heap.len() {
         let at = heap.len() - 1 - after;
         len = nearer(heap[at], len);
@@ -74,7 +74,7 @@ fn nearer(byte: u8, len: usize) -> usize
     if byte == 0 {
         0
     } else {
-        STRING_LIMIT.min(len + 1)
+        LONGEST_WITH_ZERO.min(len + 1)
     }
 }
 
@@ -88,7 +88,7 @@ fn begins_text(heap: &[u8], starts: &[bool], at: usize, len: usize) -> bool
     if len == 0 {
         return true;
     }
-    if len == STRING_LIMIT {
+    if len == LONGEST_WITH_ZERO {
         return false;
     }
     if heap[at] < 0x80 {

@@ -33,12 +33,17 @@ pub enum RuleAnswer {
     Nothing,
 }
 
-/// Which rules a bind asks.
+/// A step of a bind, which looks for a candidate. The steps stand in the order in which a bind takes
+/// them.
 #[derive(Clone, Copy, Debug, PartialEq, Eq)]
 pub enum AskStep {
+    /// Asks the Load rules of the context. A bind in context 0 has no such step.
     Load,
+    /// Looks in context 0, and then among the files of the application. It asks no rules.
     Default,
+    /// Asks the Resolving rules of the context.
     Resolving,
+    /// Asks the rules of AssemblyResolve, which all contexts share.
     Resolve,
 }
 
@@ -105,7 +110,7 @@ pub enum Event {
         name: SimpleName,
         version: Version,
     },
-    /// Asks rules for a candidate.
+    /// Looks for a candidate for a name in a context, as the step says.
     Ask {
         step: AskStep,
         context: u32,

@@ -10,9 +10,12 @@ use crate::reserved::{Numbers, Text};
 pub struct Room {
     /// For the contexts that a `Collect` frees.
     pub numbers: Numbers,
-    /// For the text that a `LoadStatic` reads.
+    /// For the text that a `LoadStatic` reads. The host does not answer that event yet.
     pub first: Text,
+    /// No event has a use for it yet. It is for one that reads the assembly, the type and the method
+    /// of a handler of a context's unloading: three texts, of which `first` has the first.
     pub second: Text,
+    /// For the last of these texts.
     pub third: Text,
 }
 

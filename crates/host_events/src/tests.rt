@@ -13,11 +13,11 @@ fn lists_take_what_they_have_room_for(rt: HostRuntime) -> Result<(), Fail> {
     let mut numbers = Numbers::new(rt.alloc(), 2)?;
     numbers.push_reserved(7);
     numbers.push_reserved(u32::MAX);
-    assert_eq!(rt; numbers.sealed().numbers(), [7, u32::MAX].as_slice());
+    assert!(rt; numbers.sealed().numbers() == [7, u32::MAX].as_slice());
 
     let mut text = Text::new(rt.alloc(), 1)?;
     text.push_reserved(0xd800);
-    assert_eq!(rt; text.units(), [0xd800].as_slice());
+    assert!(rt; text.units() == [0xd800].as_slice());
     assert!(rt; Text::new(rt.alloc(), 0)?.units().is_empty());
 
     one_reply();
@@ -53,6 +53,6 @@ fn ends_and_journals_cross_threads(rt: HostRuntime) -> Result<(), Fail> {
         move || end.items().len(),
         move || journal.items().len(),
     );
-    assert_eq!(rt; (commands, entries), (1, 1));
+    assert!(rt; commands == 1 && entries == 1);
     Ok(())
 }

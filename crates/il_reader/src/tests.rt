@@ -69,239 +69,287 @@ fn coded(alloc: Global, opcode: u16, operand: &[u8]) -> Result<Vec<u8>, AllocErr
     Ok(code)
 }
 
+/// The bytes are just this instruction.
+fn is_whole(bytes: &[u8], code: u16, operand: Operand) -> bool {
+    match next(bytes, 0) {
+        Ok((instr, end)) => instr == Instr { code, operand } && end == bytes.len(),
+        Err(_) => false,
+    }
+}
+
+/// Instructions, the bytes of an operand and what they are.
+static OPERANDS: [(&[u16], &[u8], Operand); 11] = [
+    (&BARE, &[], Operand::Nothing),
+    (&BYTES, &[0xF0], Operand::Number(240)),
+    (&HALVES, &[0xF0, 0xFF], Operand::Number(65_520)),
+    (&[0x1F], &[0xF0], Operand::Number(-16)),
+    (
+        &[0x20, 0x22],
+        &[0xF0, 0xFF, 0xFF, 0xFF],
+        Operand::Number(-16),
+    ),
+    (
+        &[0x21, 0x23],
+        &[1, 0, 0, 0, 0, 0, 0, 0x80],
+        Operand::Number(-9_223_372_036_854_775_807),
+    ),
+    (&TOKENS, &[2, 1, 0, 0x1B], Operand::Token(0x1B00_0102)),
+    (&SHORT, &[0xF0], Operand::Branch(-16)),
+    (&LONG, &[0xF0, 0xFF, 0xFF, 0xFF], Operand::Branch(-16)),
+    (
+        &[0x45],
+        &[0, 0, 0, 0],
+        Operand::Switch(Span { at: 5, len: 0 }),
+    ),
+    (
+        &[0x45],
+        &[2, 0, 0, 0, 1, 2, 3, 4, 5, 6, 7, 8],
+        Operand::Switch(Span { at: 5, len: 8 }),
+    ),
+];
+
 #[test]
 fn decodes_each_instruction(rt: HostRuntime) -> Result<(), Fail> {
-    let rows: [(&[u16], &[u8], Operand); 11] = [
-        (&BARE, &[], Operand::Nothing),
-        (&BYTES, &[0xF0], Operand::Number(240)),
-        (&HALVES, &[0xF0, 0xFF], Operand::Number(65_520)),
-        (&[0x1F], &[0xF0], Operand::Number(-16)),
-        (
-            &[0x20, 0x22],
-            &[0xF0, 0xFF, 0xFF, 0xFF],
-            Operand::Number(-16),
-        ),
-        (
-            &[0x21, 0x23],
-            &[1, 0, 0, 0, 0, 0, 0, 0x80],
-            Operand::Number(-9_223_372_036_854_775_807),
-        ),
-        (&TOKENS, &[2, 1, 0, 0x1B], Operand::Token(0x1B00_0102)),
-        (&SHORT, &[0xF0], Operand::Branch(-16)),
-        (&LONG, &[0xF0, 0xFF, 0xFF, 0xFF], Operand::Branch(-16)),
-        (
-            &[0x45],
-            &[0, 0, 0, 0],
-            Operand::Switch(Span { at: 5, len: 0 }),
-        ),
-        (
-            &[0x45],
-            &[2, 0, 0, 0, 1, 2, 3, 4, 5, 6, 7, 8],
-            Operand::Switch(Span { at: 5, len: 8 }),
-        ),
-    ];
-    for (opcodes, bytes, operand) in rows {
-        for code in opcodes {
+    for (opcodes, bytes, operand) in &OPERANDS {
+        for code in *opcodes {
             let mut coded = coded(rt.alloc(), *code, bytes)?;
-            let instr = Instr {
-                code: *code,
-                operand,
-            };
-            assert_eq!(rt; next(&coded, 0), Ok((instr, coded.len())));
+            assert!(rt; is_whole(&coded, *code, *operand));
             let _ = coded.pop();
-            assert_eq!(rt; next(&coded, 0), Err(IlFault::Bad { at: 0 }));
+            assert!(rt; next(&coded, 0) == Err(IlFault::Bad { at: 0 }));
         }
     }
-    // there are no others
-    let mut known = Vec::new(rt.alloc());
-    for second in 0..=0xFF_u8 {
-        let low = u16::from(second);
-        for code in [low, 0xFE00 + low] {
-            let coded = coded(rt.alloc(), code, &[0; 8])?;
-            if code != 0xFE && next(&coded, 0).is_ok() {
-                known.push(code)?;
-            }
-        }
-    }
-    assert_eq!(rt; known.len(), 219);
     Ok(())
 }
+
+/// There are no others.
+#[test]
+fn refuses_other_instructions(rt: HostRuntime) {
+    let mut known = 0_u32;
+    for byte in 0..=0xFF_u8 {
+        if byte != 0xFE && next(&[byte, 0, 0, 0, 0, 0, 0, 0, 0], 0).is_ok() {
+            known = known.saturating_add(1);
+        }
+        if next(&[0xFE, byte, 0, 0, 0, 0, 0, 0, 0, 0], 0).is_ok() {
+            known = known.saturating_add(1);
+        }
+    }
+    assert!(rt; known == 219);
+}
+
+/// Code, and where its instructions begin, or where none stands.
+static CODE: [(&[u8], Result<&[u32], usize>); 16] = [
+    (&[], Ok(&[])),
+    (&[0x17, 0x2A], Ok(&[0, 1])),
+    (&[0x1F, 0x2A, 0x2A], Ok(&[0, 2])),
+    (&[0x02, 0x03, 0x5B, 0x2A], Ok(&[0, 1, 2, 3])),
+    (&[0x28, 0x01, 0x00, 0x00, 0x0A, 0x2A], Ok(&[0, 5])),
+    (&[0x17, 0x17, 0x2D, 0x01, 0x18, 0x2A], Ok(&[0, 1, 2, 4, 5])),
+    (
+        &[0x02, 0x8D, 0x02, 0x00, 0x00, 0x01, 0x8E, 0x69, 0x2A],
+        Ok(&[0, 1, 6, 7, 8]),
+    ),
+    (
+        &[
+            0x7E, 0x01, 0x00, 0x00, 0x04, 0x26, 0x02, 0x17, 0x59, 0x10, 0x00, 0x02, 0x2D, 0xF2,
+            0x2A,
+        ],
+        Ok(&[0, 5, 6, 7, 8, 9, 11, 12, 14]),
+    ),
+    (
+        &[
+            0x17, 0x16, 0x5B, 0x0A, 0xDE, 0x05, 0x26, 0x1B, 0x0A, 0xDE, 0x00, 0x06, 0x2A,
+        ],
+        Ok(&[0, 1, 2, 3, 4, 6, 7, 8, 9, 11, 12]),
+    ),
+    (
+        &[
+            0x73, 0x02, 0x00, 0x00, 0x0A, 0x7A, 0x72, 0x01, 0x00, 0x00, 0x70, 0x28, 0x01, 0x00,
+            0x00, 0x0A, 0xDC,
+        ],
+        Ok(&[0, 5, 6, 11, 16]),
+    ),
+    (
+        &[
+            0xFE, 0x0C, 0x01, 0x00, 0x45, 1, 0, 0, 0, 0, 0, 0, 0, 0xFE, 0x01,
+        ],
+        Ok(&[0, 4, 13]),
+    ),
+    (&[0xFE], Err(0)),
+    (&[0x17, 0x24], Err(1)),
+    (&[0x17, 0x20, 0x00, 0x00, 0x00], Err(1)),
+    (
+        &[0x2A, 0x45, 0x02, 0x00, 0x00, 0x00, 0x00, 0x00, 0x00, 0x00],
+        Err(1),
+    ),
+    (&[0x45, 0xFF, 0xFF, 0xFF, 0xFF, 0x00], Err(0)),
+];
 
 #[test]
-fn finds_boundaries(rt: HostRuntime) -> Result<(), Fail> {
-    let rows: [(&[u8], Result<&[u32], usize>); 16] = [
-        (&[], Ok(&[])),
-        (&[0x17, 0x2A], Ok(&[0, 1])),
-        (&[0x1F, 0x2A, 0x2A], Ok(&[0, 2])),
-        (&[0x02, 0x03, 0x5B, 0x2A], Ok(&[0, 1, 2, 3])),
-        (&[0x28, 0x01, 0x00, 0x00, 0x0A, 0x2A], Ok(&[0, 5])),
-        (&[0x17, 0x17, 0x2D, 0x01, 0x18, 0x2A], Ok(&[0, 1, 2, 4, 5])),
-        (
-            &[0x02, 0x8D, 0x02, 0x00, 0x00, 0x01, 0x8E, 0x69, 0x2A],
-            Ok(&[0, 1, 6, 7, 8]),
-        ),
-        (
-            &[
-                0x7E, 0x01, 0x00, 0x00, 0x04, 0x26, 0x02, 0x17, 0x59, 0x10, 0x00, 0x02, 0x2D, 0xF2,
-                0x2A,
-            ],
-            Ok(&[0, 5, 6, 7, 8, 9, 11, 12, 14]),
-        ),
-        (
-            &[
-                0x17, 0x16, 0x5B, 0x0A, 0xDE, 0x05, 0x26, 0x1B, 0x0A, 0xDE, 0x00, 0x06, 0x2A,
-            ],
-            Ok(&[0, 1, 2, 3, 4, 6, 7, 8, 9, 11, 12]),
-        ),
-        (
-            &[
-                0x73, 0x02, 0x00, 0x00, 0x0A, 0x7A, 0x72, 0x01, 0x00, 0x00, 0x70, 0x28, 0x01, 0x00,
-                0x00, 0x0A, 0xDC,
-            ],
-            Ok(&[0, 5, 6, 11, 16]),
-        ),
-        (
-            &[
-                0xFE, 0x0C, 0x01, 0x00, 0x45, 1, 0, 0, 0, 0, 0, 0, 0, 0xFE, 0x01,
-            ],
-            Ok(&[0, 4, 13]),
-        ),
-        (&[0xFE], Err(0)),
-        (&[0x17, 0x24], Err(1)),
-        (&[0x17, 0x20, 0x00, 0x00, 0x00], Err(1)),
-        (
-            &[0x2A, 0x45, 0x02, 0x00, 0x00, 0x00, 0x00, 0x00, 0x00, 0x00],
-            Err(1),
-        ),
-        (&[0x45, 0xFF, 0xFF, 0xFF, 0xFF, 0x00], Err(0)),
-    ];
-    for (code, answer) in rows {
-        match (boundaries(rt.alloc(), code), answer) {
-            (Ok(found), Ok(offsets)) => assert_eq!(rt; found.as_slice(), offsets),
-            (found, answer) => {
-                assert_eq!(rt; found.err(), answer.err().map(|at| IlFault::Bad { at }));
-            }
-        }
+fn finds_boundaries(rt: HostRuntime) {
+    for (n, (code, wanted)) in CODE.iter().enumerate() {
+        let is_as = match (boundaries(rt.alloc(), code), wanted) {
+            (Ok(found), Ok(wanted)) => found.as_slice() == *wanted,
+            (Err(fault), Err(at)) => fault == IlFault::Bad { at: *at },
+            _ => false,
+        };
+        assert!(rt; is_as, "row {n}");
     }
-    Ok(())
 }
 
-fn head(body: &Body) -> (u16, bool, u32, Span) {
-    (body.max_stack, body.init_locals, body.locals, body.code)
+/// A body to be read, its place, what its header says, and its clauses.
+struct BodyRow {
+    bytes: &'static [u8],
+    at: usize,
+    max_stack: u16,
+    init_locals: bool,
+    locals: u32,
+    code: Span,
+    clauses: &'static [Clause],
+}
+
+static BODIES: [BodyRow; 4] = [
+    BodyRow {
+        bytes: &[0x0A, 0x17, 0x2A],
+        at: 0,
+        max_stack: 8,
+        init_locals: false,
+        locals: 0,
+        code: Span { at: 1, len: 2 },
+        clauses: &[],
+    },
+    BodyRow {
+        bytes: &[0xFF, 0x02],
+        at: 1,
+        max_stack: 8,
+        init_locals: false,
+        locals: 0,
+        code: Span { at: 2, len: 0 },
+        clauses: &[],
+    },
+    BodyRow {
+        bytes: &WITH_CATCH,
+        at: 0,
+        max_stack: 2,
+        init_locals: true,
+        locals: 0x1100_0001,
+        code: Span { at: 12, len: 13 },
+        clauses: &[Clause {
+            kind: CATCH,
+            try_at: 0,
+            try_len: 6,
+            handler_at: 6,
+            handler_len: 5,
+            last: 0x0100_0003,
+        }],
+    },
+    BodyRow {
+        bytes: &TWO_SECTIONS,
+        at: 3,
+        max_stack: 7,
+        init_locals: false,
+        locals: 0,
+        code: Span { at: 15, len: 2 },
+        clauses: &[
+            Clause {
+                kind: FINALLY,
+                try_at: 0x0403_0201,
+                try_len: 5,
+                handler_at: 6,
+                handler_len: 7,
+                last: 0,
+            },
+            Clause {
+                kind: FAULT,
+                try_at: 0,
+                try_len: 1,
+                handler_at: 1,
+                handler_len: u32::MAX,
+                last: 0x8000_0000,
+            },
+        ],
+    },
+];
+
+fn is_as(body: &Body, row: &BodyRow) -> bool {
+    body.max_stack == row.max_stack
+        && body.init_locals == row.init_locals
+        && body.locals == row.locals
+        && body.code == row.code
+        && body.clauses.items() == row.clauses
+}
+
+/// Without its last byte no body stands whole.
+fn is_whole_only(alloc: Global, bytes: &[u8], at: usize) -> bool {
+    match bytes.split_last() {
+        Some((_, front)) => read_body(alloc, front, at).err() == Some(IlFault::Bad { at }),
+        None => false,
+    }
 }
 
 #[test]
 fn reads_bodies(rt: HostRuntime) -> Result<(), Fail> {
-    let caught = Clause {
-        kind: CATCH,
-        try_at: 0,
-        try_len: 6,
-        handler_at: 6,
-        handler_len: 5,
-        last: 0x0100_0003,
-    };
-    let last = Clause {
-        kind: FINALLY,
-        try_at: 0x0403_0201,
-        try_len: 5,
-        handler_at: 6,
-        handler_len: 7,
-        last: 0,
-    };
-    let fault = Clause {
-        kind: FAULT,
-        try_at: 0,
-        try_len: 1,
-        handler_at: 1,
-        handler_len: u32::MAX,
-        last: 0x8000_0000,
-    };
-    let rows: [(&[u8], usize, (u16, bool, u32, Span), &[Clause]); 4] = [
-        (
-            &[0x0A, 0x17, 0x2A],
-            0,
-            (8, false, 0, Span { at: 1, len: 2 }),
-            &[],
-        ),
-        (&[0xFF, 0x02], 1, (8, false, 0, Span { at: 2, len: 0 }), &[]),
-        (
-            &WITH_CATCH,
-            0,
-            (2, true, 0x1100_0001, Span { at: 12, len: 13 }),
-            &[caught],
-        ),
-        (
-            &TWO_SECTIONS,
-            3,
-            (7, false, 0, Span { at: 15, len: 2 }),
-            &[last, fault],
-        ),
-    ];
-    for (bytes, at, expected, clauses) in rows {
-        let body = read_body(rt.alloc(), bytes, at)?;
-        assert_eq!(rt; head(&body), expected);
-        assert_eq!(rt; body.clauses.items(), clauses);
-        // without the last byte none stands whole
-        if let Some((_, front)) = bytes.split_last() {
-            let cut = read_body(rt.alloc(), front, at).err();
-            assert_eq!(rt; cut, Some(IlFault::Bad { at }));
-        }
+    for (n, row) in BODIES.iter().enumerate() {
+        let body = read_body(rt.alloc(), row.bytes, row.at)?;
+        assert!(rt; is_as(&body, row), "row {n}");
+        assert!(rt; is_whole_only(rt.alloc(), row.bytes, row.at), "row {n}");
     }
     Ok(())
+}
+
+/// A byte of the body with a catch, what stands there instead, and how many clauses are read.
+static CHANGED: [(usize, u8, Option<usize>); 14] = [
+    (0, 0x13, Some(0)),
+    (0, 0x19, None),
+    (1, 0x20, None),
+    (1, 0x3F, Some(1)),
+    (4, 0x10, Some(1)),
+    (4, 0x11, None),
+    (25, 0xFF, Some(1)),
+    (28, 0x02, None),
+    (28, 0x41, None),
+    (28, 0x81, None),
+    (29, 0x04, Some(0)),
+    (29, 0x0F, None),
+    (32, 0x01, Some(1)),
+    (32, 0x03, None),
+];
+
+fn clause_count(alloc: Global, bytes: &[u8]) -> Option<usize> {
+    let body = read_body(alloc, bytes, 0).ok()?;
+    Some(body.clauses.items().len())
 }
 
 #[test]
 fn refuses_what_is_no_body(rt: HostRuntime) -> Result<(), Fail> {
-    // a byte of the body with a catch, what stands there instead, and how many clauses are read
-    let rows: [(usize, u8, Option<usize>); 14] = [
-        (0, 0x13, Some(0)),
-        (0, 0x19, None),
-        (1, 0x20, None),
-        (1, 0x3F, Some(1)),
-        (4, 0x10, Some(1)),
-        (4, 0x11, None),
-        (25, 0xFF, Some(1)),
-        (28, 0x02, None),
-        (28, 0x41, None),
-        (28, 0x81, None),
-        (29, 0x04, Some(0)),
-        (29, 0x0F, None),
-        (32, 0x01, Some(1)),
-        (32, 0x03, None),
-    ];
-    for (at, byte, clauses) in rows {
+    for (n, (at, byte, clauses)) in CHANGED.iter().enumerate() {
         let mut bytes = WITH_CATCH.to_vec(rt.alloc())?;
-        if let Some(place) = bytes.get_mut(at) {
-            *place = byte;
+        if let Some(place) = bytes.get_mut(*at) {
+            *place = *byte;
         }
-        let read = read_body(rt.alloc(), &bytes, 0).ok();
-        assert_eq!(rt; read.map(|body| body.clauses.items().len()), clauses);
+        assert!(rt; clause_count(rt.alloc(), &bytes) == *clauses, "row {n}");
     }
     let far = read_body(rt.alloc(), &WITH_CATCH, usize::MAX).err();
-    assert_eq!(rt; far, Some(IlFault::Bad { at: usize::MAX }));
+    assert!(rt; far == Some(IlFault::Bad { at: usize::MAX }));
     Ok(())
 }
 
+/// A fat body of 65,536 instructions, and after them a fat section of 100 clauses of no bytes.
 #[test]
 fn reads_what_is_long(rt: HostRuntime) -> Result<(), Fail> {
-    // a fat body of so many instructions, and after them a fat section of 100 clauses of no bytes
-    let mut bytes = vec![in rt.alloc(); 0x00; 12 + 65_536 + 4 + 24 * 100]?;
-    bytes[0] = 0x0B;
-    bytes[1] = 0x30;
-    bytes[6] = 0x01;
-    bytes[12 + 65_536] = 0x41;
-    bytes[12 + 65_537] = 0x64;
-    bytes[12 + 65_538] = 0x09;
+    let mut bytes = b"\x0B\x30\0\0\0\0\x01\0\0\0\0\0".to_vec(rt.alloc())?;
+    bytes.resize(12 + 65_536, 0)?;
+    bytes.extend_from_slice(b"\x41\x64\x09")?;
+    bytes.resize(12 + 65_536 + 4 + 24 * 100, 0)?;
     let body = read_body(rt.alloc(), &bytes, 0)?;
-    assert_eq!(rt; body.clauses.items().len(), 100);
-    assert_eq!(rt;
-        body.code,
-        Span {
-            at: 12,
-            len: 65_536
-        }
+    assert!(rt; body.clauses.items().len() == 100);
+    assert!(rt;
+        body.code
+            == Span {
+                at: 12,
+                len: 65_536
+            }
     );
     let code = body.code.cut(&bytes);
-    assert_eq!(rt; boundaries(rt.alloc(), code)?.len(), 65_536);
+    assert!(rt; boundaries(rt.alloc(), code)?.len() == 65_536);
     Ok(())
 }

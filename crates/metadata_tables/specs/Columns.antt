@@ -127,7 +127,7 @@ tag_bits_of CustomAttributeType = 3
 tag_bits_of ResolutionScope = 2
 tag_bits_of TypeOrMethodDef = 1
 
--- the tag of the first table
+-- the tag of the first table: CustomAttributeType has the tags 2 and 3 alone
 abbrev pub first_tag_of : CodedIndex → ℕ
 first_tag_of CustomAttributeType = 2
 first_tag_of _ = 0

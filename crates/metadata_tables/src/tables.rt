@@ -20,7 +20,8 @@ use crate::schema::columns;
 use cli_words::{CheckCode, FailedCheck, Span};
 use std::marker::Model;
 
-/// How many bytes each heap has that rows point into.
+/// How many bytes each heap has that rows point into. Whether indexes into a heap have two bytes or
+/// four doesn't depend on these: the field HeapSizes of the stream `#~` says it. ECMA-335 II.24.2.6.
 #[derive(Clone, Copy, PartialEq, Eq, Debug)]
 pub struct HeapSizes {
     pub strings: u32,

@@ -11,7 +11,7 @@ use std::test::Fail;
 
 /// Module 1 row, TypeRef 2, Constant 1, Assembly 1; heap indexes have two bytes. Two bytes stand
 /// before the stream.
-const SMALL: &[u8] = &[
+static SMALL: &[u8] = &[
     0xEE, 0xEE, 0, 0, 0, 0, 2, 0, 0, 1, 0x03, 0x08, 0, 0, 1, 0, 0, 0, 0, 0xFA, 1, 0x33, 0, 0x16, 0,
     0, 1, 0, 0, 0, 2, 0, 0, 0, 1, 0, 0, 0, 1, 0, 0, 0, // Module
     0, 0, 1, 0, 1, 0, 0, 0, 0, 0, // TypeRef
@@ -21,7 +21,7 @@ const SMALL: &[u8] = &[
 ];
 
 /// Module 1 row, Field 1; heap indexes have four bytes.
-const WIDE: &[u8] = &[
+static WIDE: &[u8] = &[
     0, 0, 0, 0, 2, 0, 7, 1, 0x11, 0, 0, 0, 0, 0, 0, 0, 0, 0, 0, 0, 0, 0, 0, 0, 1, 0, 0, 0, 1, 0, 0,
     0, // Module
     0, 0, 1, 0, 0, 0, 2, 0, 0, 0, 3, 0, 0, 0, 4, 0, 0, 1, // Field
@@ -48,42 +48,43 @@ fn row_is(rt: &impl Abort, tables: &Tables, bytes: &[u8], table: u8, n: u32, wan
     requires { rows_end tables.now ≤ length bytes.now }
 {
     let row = tables.row(bytes, table, n);
-    assert_eq!(rt; row.is_some(), !wanted.is_empty());
+    assert!(rt; row.is_some() != wanted.is_empty());
     for k in 0..10_usize {
         let number = wanted.get(k).copied();
-        assert_eq!(rt;
-            tables.number(bytes, table, n, k),
-            number,
+        assert!(rt;
+            tables.number(bytes, table, n, k) == number,
             "column {k} of {table}"
         );
-        assert_eq!(rt; tables.column_at(table, n, k).is_some(), number.is_some());
+        assert!(rt; tables.column_at(table, n, k).is_some() == number.is_some());
         if let Some(row) = &row {
-            assert_eq!(rt; row.column(k), number);
+            assert!(rt; row.column(k) == number);
         }
     }
 }
 
+/// Tables and rows of `SMALL`, and the numbers in them: none where there is no such row.
+static SMALL_ROWS: [(u8, u32, &[u32]); 10] = [
+    (0, 0, &[]),
+    (0, 1, &[0, 1, 1, 0, 0]),
+    (0, 2, &[]),
+    (1, 1, &[6, 10, 15]),
+    (1, 2, &[10, 0xFFFF, 0x1234]),
+    (1, 3, &[]),
+    (2, 1, &[]),
+    (0x0B, 1, &[8, 0, 4, 0x21]),
+    (0x20, 1, &[0x8004, 1, 2, 3, 4, 1, 7, 11, 0]),
+    (255, 1, &[]),
+];
+
 #[test]
 fn reads_rows(rt: HostRuntime) -> Result<(), Fail> {
     let tables = read(&rt, SMALL, 2, 90)?;
-    let rows: [(u8, u32, &[u32]); 10] = [
-        (0, 0, &[]),
-        (0, 1, &[0, 1, 1, 0, 0]),
-        (0, 2, &[]),
-        (1, 1, &[6, 10, 15]),
-        (1, 2, &[10, 0xFFFF, 0x1234]),
-        (1, 3, &[]),
-        (2, 1, &[]),
-        (0x0B, 1, &[8, 0, 4, 0x21]),
-        (0x20, 1, &[0x8004, 1, 2, 3, 4, 1, 7, 11, 0]),
-        (255, 1, &[]),
-    ];
-    for (table, n, wanted) in rows {
-        row_is(&rt, &tables, SMALL, table, n, wanted);
+    for (table, n, wanted) in &SMALL_ROWS {
+        row_is(&rt, &tables, SMALL, *table, *n, wanted);
     }
-    assert_eq!(rt; tables.count(1), 2);
-    assert_eq!(rt; tables.column_at(1, 2, 2), Some(62));
-    assert_eq!(rt; tables.column_at(0x20, 1, 8), Some(90));
+    assert!(rt; tables.count(1) == 2);
+    assert!(rt; tables.column_at(1, 2, 2) == Some(62));
+    assert!(rt; tables.column_at(0x20, 1, 8) == Some(90));
     let tables = read(&rt, WIDE, 0, 60)?;
     row_is(&rt, &tables, WIDE, 0, 1, &[0, 1, 2, 3, 0x0100_0004]);
     row_is(&rt, &tables, WIDE, 4, 1, &[6, 0x1234_5678, 5]);
@@ -105,74 +106,71 @@ fn stream(alloc: Global, valid: u64, counts: &[u32], len: usize) -> Result<Vec<u
 /// MemberRef, ModuleRef and ImplMap: the count of ModuleRef decides how wide indexes into it are.
 const INDEXED: u64 = (1 << 0x0A) + (1 << 0x1A) + (1 << 0x1C);
 
+/// The tables of a stream, their counts, its length, and the check that it fails.
+static STREAMS: [(u64, &[u32], usize, Option<CheckCode>); 30] = [
+    (0, &[], 24, None),
+    (1, &[], 24, Some(Bounds)),
+    (1, &[1], 27, Some(Bounds)),
+    (1, &[0], 28, None),
+    (1, &[1], 37, Some(Bounds)),
+    (1, &[1], 38, None),
+    (1, &[0x00FF_FFFF], 28, Some(Bounds)),
+    (1, &[0x0100_0000], 28, Some(Table)),
+    (1, &[0x0100_0000], 27, Some(Bounds)),
+    (3, &[0, 0x0100_0000], 31, Some(Bounds)),
+    (3, &[0, 0x0100_0000], 32, Some(Table)),
+    (1 << 0x03, &[0], 28, Some(Table)),
+    (1 << 0x05, &[0], 28, Some(Table)),
+    (1 << 0x07, &[0], 28, Some(Table)),
+    (1 << 0x13, &[0], 28, Some(Table)),
+    (1 << 0x16, &[0], 28, Some(Table)),
+    (1 << 0x1E, &[0], 28, Some(Table)),
+    (1 << 0x1F, &[0], 28, Some(Table)),
+    (1 << 0x2C, &[1], 32, None),
+    (1 << 0x2D, &[], 24, Some(Table)),
+    (1 << 0x3F, &[0], 28, Some(Table)),
+    ((1 << 0x3F) + 1, &[1], 28, Some(Table)),
+    (INDEXED, &[1, 8_191, 1], 16_432, None),
+    (INDEXED, &[1, 8_191, 1], 16_431, Some(Bounds)),
+    (INDEXED, &[1, 8_192, 1], 16_436, None),
+    (INDEXED, &[1, 8_192, 1], 16_435, Some(Bounds)),
+    (INDEXED, &[1, 65_535, 1], 131_122, None),
+    (INDEXED, &[1, 65_535, 1], 131_121, Some(Bounds)),
+    (INDEXED, &[1, 65_536, 1], 131_126, None),
+    (INDEXED, &[1, 65_536, 1], 131_125, Some(Bounds)),
+];
+
 #[test]
 fn refuses_streams(rt: HostRuntime) -> Result<(), Fail> {
-    let rows: [(u64, &[u32], usize, Option<CheckCode>); 30] = [
-        (0, &[], 24, None),
-        (1, &[], 24, Some(Bounds)),
-        (1, &[1], 27, Some(Bounds)),
-        (1, &[0], 28, None),
-        (1, &[1], 37, Some(Bounds)),
-        (1, &[1], 38, None),
-        (1, &[0x00FF_FFFF], 28, Some(Bounds)),
-        (1, &[0x0100_0000], 28, Some(Table)),
-        (1, &[0x0100_0000], 27, Some(Bounds)),
-        (3, &[0, 0x0100_0000], 31, Some(Bounds)),
-        (3, &[0, 0x0100_0000], 32, Some(Table)),
-        (1 << 0x03, &[0], 28, Some(Table)),
-        (1 << 0x05, &[0], 28, Some(Table)),
-        (1 << 0x07, &[0], 28, Some(Table)),
-        (1 << 0x13, &[0], 28, Some(Table)),
-        (1 << 0x16, &[0], 28, Some(Table)),
-        (1 << 0x1E, &[0], 28, Some(Table)),
-        (1 << 0x1F, &[0], 28, Some(Table)),
-        (1 << 0x2C, &[1], 32, None),
-        (1 << 0x2D, &[], 24, Some(Table)),
-        (1 << 0x3F, &[0], 28, Some(Table)),
-        ((1 << 0x3F) + 1, &[1], 28, Some(Table)),
-        (INDEXED, &[1, 8_191, 1], 16_432, None),
-        (INDEXED, &[1, 8_191, 1], 16_431, Some(Bounds)),
-        (INDEXED, &[1, 8_192, 1], 16_436, None),
-        (INDEXED, &[1, 8_192, 1], 16_435, Some(Bounds)),
-        (INDEXED, &[1, 65_535, 1], 131_122, None),
-        (INDEXED, &[1, 65_535, 1], 131_121, Some(Bounds)),
-        (INDEXED, &[1, 65_536, 1], 131_126, None),
-        (INDEXED, &[1, 65_536, 1], 131_125, Some(Bounds)),
-    ];
-    for (valid, counts, len, wanted) in rows {
-        let bytes = stream(rt.alloc(), valid, counts, len)?;
-        let failed = read(&rt, bytes.as_slice(), 0, len).err();
-        assert_eq!(rt;
-            failed.map(|failed| failed.code),
-            wanted,
-            "tables {valid} in {len} bytes"
-        );
+    for (n, (valid, counts, len, wanted)) in STREAMS.iter().enumerate() {
+        let bytes = stream(rt.alloc(), *valid, counts, *len)?;
+        let failed = read(&rt, &bytes, 0, *len).err();
+        assert!(rt; failed.map(|failed| failed.code) == *wanted, "row {n}");
     }
-    let failed = FailedCheck {
-        code: Bounds,
-        at: 2,
-    };
-    assert_eq!(rt; read(&rt, SMALL, 2, 89).err(), Some(failed));
+    let failed = read(&rt, SMALL, 2, 89).err();
+    assert!(rt; failed == Some(FailedCheck::of(Bounds, 2)));
     Ok(())
 }
 
+/// The columns of MethodSpec.
+static METHOD_SPEC: [Column; 2] = [Column::Coded(CodedIndex::MethodDefOrRef), Column::Blob];
+
+/// Coded indexes, and the table and the row that each names.
+static TARGETS: [(CodedIndex, u32, Option<(u8, u32)>); 8] = [
+    (CodedIndex::TypeDefOrRef, 0x49, Some((0x01, 0x12))),
+    (CodedIndex::TypeDefOrRef, 0x4B, None),
+    (CodedIndex::HasCustomAttribute, 0x2A, Some((0x14, 1))),
+    (CodedIndex::HasCustomAttribute, 0x15, Some((0x2B, 0))),
+    (CodedIndex::HasCustomAttribute, 0x16, None),
+    (CodedIndex::CustomAttributeType, 0, None),
+    (CodedIndex::CustomAttributeType, 0x0B, Some((0x0A, 1))),
+    (CodedIndex::CustomAttributeType, 0x0C, None),
+];
+
 #[test]
 fn names_targets(rt: HostRuntime) {
-    assert_eq!(rt;
-        columns(0x2B),
-        [Column::Coded(CodedIndex::MethodDefOrRef), Column::Blob].as_slice()
-    );
-    let rows = [
-        (CodedIndex::TypeDefOrRef, 0x49, Some((0x01, 0x12))),
-        (CodedIndex::TypeDefOrRef, 0x4B, None),
-        (CodedIndex::HasCustomAttribute, 0x2A, Some((0x14, 1))),
-        (CodedIndex::HasCustomAttribute, 0x15, Some((0x2B, 0))),
-        (CodedIndex::HasCustomAttribute, 0x16, None),
-        (CodedIndex::CustomAttributeType, 0, None),
-        (CodedIndex::CustomAttributeType, 0x0B, Some((0x0A, 1))),
-        (CodedIndex::CustomAttributeType, 0x0C, None),
-    ];
-    for (kind, index, wanted) in rows {
-        assert_eq!(rt; kind.target(index), wanted);
+    assert!(rt; columns(0x2B) == METHOD_SPEC.as_slice());
+    for (n, (kind, index, wanted)) in TARGETS.iter().enumerate() {
+        assert!(rt; kind.target(*index) == *wanted, "row {n}");
     }
 }

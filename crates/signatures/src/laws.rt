@@ -34,9 +34,10 @@ pub fn spelled_numbers_are_small()
         SpellsType sig bytes → AreNumbered sig }
 {}
 
-/// Where the reading of a blob stops, a spelling begins with all the bytes before, and none with
-/// those and the byte there: no longer front of the blob has a reading. What is told as left out
-/// is what the byte there stands for where a type, or the head of a method, begins.
+/// A blob that is not read is refused at the first byte that no signature could have there, or at
+/// its end: some signature's bytes begin with all the bytes before that place, and no signature's
+/// with these and the byte there. A feature that is told is what this byte means as the first one
+/// of a type, or of a method's signature; the law does not say that a type can stand there.
 pub fn readings_stop_at_first()
     ensures fields { StopsAtFirst OfTypes SpellsField field_reading }
     ensures methods { StopsAtFirst OfMethods SpellsMethod method_reading }

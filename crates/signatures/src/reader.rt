@@ -71,7 +71,8 @@ pub fn method_sig(alloc: Global, bytes: &[u8], blob: Span) -> Result<MethodSig, 
 }
 
 /// The types of locals: 07, a count and as many types. `Bad` exactly where the blob has no
-/// reading, `Feature` exactly where the reading comes to something that is left out.
+/// reading, `Feature` exactly where the reading comes to something that is left out. The count is
+/// to be 1 to FFFE (hexadecimal) by the standard; 0 and greater ones are read here too.
 /// ECMA-335 II.23.2.6.
 pub fn local_sig(alloc: Global, bytes: &[u8], blob: Span) -> Result<Vec<Sig>, SigFault>
     requires { LiesIn (length bytes.now) blob }

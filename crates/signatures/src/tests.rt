@@ -24,14 +24,6 @@ enum Kind {
     Type,
 }
 
-fn bad<T>(at: usize) -> Result<T, SigFault> {
-    Err(SigFault::Bad { at })
-}
-
-fn left_out<T>(feature: Feature) -> Result<T, SigFault> {
-    Err(SigFault::Feature { feature })
-}
-
 fn all_of(bytes: &[u8]) -> Span
     ensures { LiesIn (length bytes.now) result }
 {
@@ -60,104 +52,192 @@ fn read(alloc: Global, kind: Kind, bytes: &[u8]) -> Result<Vec<Sig>, SigFault> {
     sigs.map_err(|_| SigFault::OutOfMemory)
 }
 
-/// Their parts, one after another.
-fn parts(alloc: Global, sigs: &[Sig]) -> Result<Vec<SigPart>, AllocError> {
-    let mut parts = Vec::new(alloc);
-    for sig in sigs {
-        parts.extend_from_slice(sig.parts())?;
+/// The parts of each type, or the fault.
+type Wanted = Result<&'static [&'static [SigPart]], SigFault>;
+
+fn is_as(found: &Result<Vec<Sig>, SigFault>, wanted: &Wanted) -> bool {
+    match (found, wanted) {
+        (Ok(sigs), Ok(wanted)) => are_as(sigs, wanted),
+        (Err(fault), Err(wanted)) => fault == wanted,
+        _ => false,
     }
-    Ok(parts)
 }
+
+fn are_as(sigs: &[Sig], wanted: &[&[SigPart]]) -> bool {
+    for (sig, wanted) in sigs.iter().zip(wanted) {
+        if sig.parts() != *wanted {
+            return false;
+        }
+    }
+    sigs.len() == wanted.len()
+}
+
+/// Blobs, and what they read as.
+static BLOBS: [(Kind, &[u8], Wanted); 36] = [
+    (Kind::Field, b"\x06\x08", Ok(&[&[INT32]])),
+    (
+        Kind::Field,
+        b"\x06\x1F\x05\x20\x80\x09\x08",
+        Ok(&[&[INT32]]),
+    ),
+    (Kind::Field, b"\x06\x08\x08", Err(SigFault::Bad { at: 2 })),
+    (
+        Kind::Method,
+        b"\x00\x02\x08\x08\x0E",
+        Ok(&[&[INT32], &[INT32], &[TEXT]]),
+    ),
+    (Kind::Method, b"\x20\x00\x01", Ok(&[])),
+    (Kind::Method, b"\x00\x00\x1F\x05\x01", Ok(&[])),
+    (Kind::Method, b"\x06\x08", Err(SigFault::Bad { at: 0 })),
+    (Kind::Method, b"\x60\x00\x01", Err(SigFault::Bad { at: 0 })),
+    (
+        Kind::Method,
+        b"\x00\x02\x08\x08",
+        Err(SigFault::Bad { at: 4 }),
+    ),
+    (
+        Kind::Method,
+        b"\x00\x01\x08\x08\x0E",
+        Err(SigFault::Bad { at: 4 }),
+    ),
+    (
+        Kind::Method,
+        b"\x00\x01\x08\x01",
+        Err(SigFault::Bad { at: 3 }),
+    ),
+    (
+        Kind::Method,
+        b"\x30\x01",
+        Err(SigFault::Feature {
+            feature: Feature::GenericMethod,
+        }),
+    ),
+    (
+        Kind::Method,
+        b"\x25",
+        Err(SigFault::Feature {
+            feature: Feature::Varargs,
+        }),
+    ),
+    (
+        Kind::Method,
+        b"\x00\x02\x0D\x17",
+        Err(SigFault::Feature {
+            feature: Feature::Float,
+        }),
+    ),
+    (Kind::Locals, b"\x07\x01\x08", Ok(&[&[INT32]])),
+    (Kind::Locals, b"\x07\x02\x0E\x08", Ok(&[&[TEXT], &[INT32]])),
+    (Kind::Locals, b"\x07\x00", Ok(&[])),
+    (
+        Kind::Locals,
+        b"\x07\x01\x45\x08",
+        Err(SigFault::Feature {
+            feature: Feature::Pointer,
+        }),
+    ),
+    (Kind::Type, b"\x1D\x08", Ok(&[&[SigPart::Vector, INT32]])),
+    (
+        Kind::Type,
+        b"\x12\xC0\x00\x40\x01",
+        Ok(&[&[SigPart::Class(16_385)]]),
+    ),
+    (Kind::Type, b"\x13\x80\x80", Ok(&[&[SigPart::Var(128)]])),
+    (
+        Kind::Type,
+        b"\x15\x12\x08\x02\x20\x05\x12\x0C\x1C",
+        Ok(&[&[
+            SigPart::Inst { class: 8, args: 2 },
+            SigPart::Class(12),
+            SigPart::Prim(Prim::Object),
+        ]]),
+    ),
+    (Kind::Type, b"\x12\xE0", Err(SigFault::Bad { at: 1 })),
+    (Kind::Type, b"\x12\x80", Err(SigFault::Bad { at: 2 })),
+    (
+        Kind::Type,
+        b"\x12\x80\x07\x08",
+        Err(SigFault::Bad { at: 2 }),
+    ),
+    (Kind::Type, b"\x1F\x07\x08", Err(SigFault::Bad { at: 1 })),
+    (Kind::Type, b"", Err(SigFault::Bad { at: 0 })),
+    (Kind::Type, b"\x1D\x1D", Err(SigFault::Bad { at: 2 })),
+    (
+        Kind::Type,
+        b"\x15\x12\x08\x02\x08",
+        Err(SigFault::Bad { at: 5 }),
+    ),
+    (Kind::Type, b"\x1D\x01", Err(SigFault::Bad { at: 1 })),
+    (Kind::Type, b"\x17", Err(SigFault::Bad { at: 0 })),
+    (Kind::Type, b"\x15\x08", Err(SigFault::Bad { at: 1 })),
+    (
+        Kind::Type,
+        b"\x15\x11",
+        Err(SigFault::Feature {
+            feature: Feature::ValueType,
+        }),
+    ),
+    (
+        Kind::Type,
+        b"\x14",
+        Err(SigFault::Feature {
+            feature: Feature::ArrayShape,
+        }),
+    ),
+    (
+        Kind::Type,
+        b"\x1E",
+        Err(SigFault::Feature {
+            feature: Feature::GenericMethod,
+        }),
+    ),
+    (
+        Kind::Type,
+        b"\x1D\x0C\xFF",
+        Err(SigFault::Feature {
+            feature: Feature::Float,
+        }),
+    ),
+];
 
 #[test]
 fn reads_blobs(rt: HostRuntime) -> Result<(), Fail> {
-    let rows: [(Kind, &[u8], Result<&[SigPart], SigFault>); 36] = [
-        (Kind::Field, b"\x06\x08", Ok(&[INT32])),
-        (Kind::Field, b"\x06\x1F\x05\x20\x80\x09\x08", Ok(&[INT32])),
-        (Kind::Field, b"\x06\x08\x08", bad(2)),
-        (
-            Kind::Method,
-            b"\x00\x02\x08\x08\x0E",
-            Ok(&[INT32, INT32, TEXT]),
-        ),
-        (Kind::Method, b"\x20\x00\x01", Ok(&[])),
-        (Kind::Method, b"\x00\x00\x1F\x05\x01", Ok(&[])),
-        (Kind::Method, b"\x06\x08", bad(0)),
-        (Kind::Method, b"\x60\x00\x01", bad(0)),
-        (Kind::Method, b"\x00\x02\x08\x08", bad(4)),
-        (Kind::Method, b"\x00\x01\x08\x08\x0E", bad(4)),
-        (Kind::Method, b"\x00\x01\x08\x01", bad(3)),
-        (Kind::Method, b"\x30\x01", left_out(Feature::GenericMethod)),
-        (Kind::Method, b"\x25", left_out(Feature::Varargs)),
-        (Kind::Method, b"\x00\x02\x0D\x17", left_out(Feature::Float)),
-        (Kind::Locals, b"\x07\x01\x08", Ok(&[INT32])),
-        (Kind::Locals, b"\x07\x02\x0E\x08", Ok(&[TEXT, INT32])),
-        (Kind::Locals, b"\x07\x00", Ok(&[])),
-        (
-            Kind::Locals,
-            b"\x07\x01\x45\x08",
-            left_out(Feature::Pointer),
-        ),
-        (Kind::Type, b"\x1D\x08", Ok(&[SigPart::Vector, INT32])),
-        (
-            Kind::Type,
-            b"\x12\xC0\x00\x40\x01",
-            Ok(&[SigPart::Class(16_385)]),
-        ),
-        (Kind::Type, b"\x13\x80\x80", Ok(&[SigPart::Var(128)])),
-        (
-            Kind::Type,
-            b"\x15\x12\x08\x02\x20\x05\x12\x0C\x1C",
-            Ok(&[
-                SigPart::Inst { class: 8, args: 2 },
-                SigPart::Class(12),
-                SigPart::Prim(Prim::Object),
-            ]),
-        ),
-        (Kind::Type, b"\x12\xE0", bad(1)),
-        (Kind::Type, b"\x12\x80", bad(2)),
-        (Kind::Type, b"\x12\x80\x07\x08", bad(2)),
-        (Kind::Type, b"\x1F\x07\x08", bad(1)),
-        (Kind::Type, b"", bad(0)),
-        (Kind::Type, b"\x1D\x1D", bad(2)),
-        (Kind::Type, b"\x15\x12\x08\x02\x08", bad(5)),
-        (Kind::Type, b"\x1D\x01", bad(1)),
-        (Kind::Type, b"\x17", bad(0)),
-        (Kind::Type, b"\x15\x08", bad(1)),
-        (Kind::Type, b"\x15\x11", left_out(Feature::ValueType)),
-        (Kind::Type, b"\x14", left_out(Feature::ArrayShape)),
-        (Kind::Type, b"\x1E", left_out(Feature::GenericMethod)),
-        (Kind::Type, b"\x1D\x0C\xFF", left_out(Feature::Float)),
-    ];
-    for (kind, bytes, answer) in rows {
-        match (read(rt.alloc(), kind, bytes), answer) {
-            (Ok(sigs), Ok(expected)) => {
-                assert_eq!(rt; parts(rt.alloc(), &sigs)?.as_slice(), expected);
-            }
-            (found, answer) => assert_eq!(rt; found.err(), answer.err()),
-        }
+    for (n, (kind, bytes, wanted)) in BLOBS.iter().enumerate() {
+        let found = read(rt.alloc(), *kind, bytes);
+        assert!(rt; is_as(&found, wanted), "row {n}");
     }
     let whole = method_sig(rt.alloc(), b"\x20\x01\x01\x0E", Span { at: 0, len: 4 })?;
     assert!(rt; whole.has_this && whole.result.is_none());
     Ok(())
 }
 
+/// How many parts the type of a blob has, of how many types it is made, and how many parts the
+/// first of these has.
+fn lens(alloc: Global, bytes: &[u8]) -> Result<[usize; 3], Fail> {
+    let sig = type_sig(alloc, bytes, all_of(bytes))?;
+    let made_of = sig.made_of(alloc)?;
+    let first = made_of.first().map_or(0, |sig| sig.parts().len());
+    Ok([sig.parts().len(), made_of.len(), first])
+}
+
 #[test]
-fn reads_what_is_long(rt: HostRuntime) -> Result<(), Fail> {
-    let mut method = vec![in rt.alloc(); 0x08; 103]?;
-    method[0] = 0x00;
-    method[1] = 100;
-    let sig = method_sig(rt.alloc(), &method, all_of(&method))?;
-    assert_eq!(rt; sig.params.items().len(), 100);
+fn reads_deep_types(rt: HostRuntime) -> Result<(), Fail> {
     let mut deep = vec![in rt.alloc(); 0x1D; 65_536]?;
     let cut = type_sig(rt.alloc(), &deep, all_of(&deep)).err();
-    assert_eq!(rt; cut, Some(SigFault::Bad { at: 65_536 }));
-    deep[65_535] = 0x08;
-    let sig = type_sig(rt.alloc(), &deep, all_of(&deep))?;
-    assert_eq!(rt; sig.parts().len(), 65_536);
-    let element = sig.made_of(rt.alloc())?;
-    assert_eq!(rt; element.len(), 1);
-    assert_eq!(rt; element[0].parts().len(), 65_535);
+    assert!(rt; cut == Some(SigFault::Bad { at: 65_536 }));
+    if let Some(last) = deep.last_mut() {
+        *last = 0x08;
+    }
+    assert!(rt; lens(rt.alloc(), &deep)? == [65_536, 1, 65_535]);
+    Ok(())
+}
+
+#[test]
+fn reads_many_parameters(rt: HostRuntime) -> Result<(), Fail> {
+    let mut method = b"\x00\x64".to_vec(rt.alloc())?;
+    method.resize(103, 0x08)?;
+    let sig = method_sig(rt.alloc(), &method, all_of(&method))?;
+    assert!(rt; sig.params.items().len() == 100);
     Ok(())
 }
 
@@ -177,6 +257,32 @@ fn key(alloc: Global, parts: &[KeyPart]) -> Result<TypeKey, AllocError>
     TypeKey::of(alloc, Key::of(Vec::from_slice(alloc, parts)?))
 }
 
+/// Row 2 of assembly 1 with two arguments: itself without arguments, and an array of int32.
+const PAIR_OF_TWO: [KeyPart; 4] = [
+    KeyPart::Class {
+        assembly: 1,
+        row: 2,
+        args: 2,
+    },
+    PAIR,
+    KeyPart::Vector,
+    KEY_OF_INT32,
+];
+
+fn is_pair(found: &Result<TypeKey, KeyFault>) -> bool {
+    match found {
+        Ok(found) => found.key().parts() == PAIR_OF_TWO.as_slice(),
+        Err(_) => false,
+    }
+}
+
+fn lacks(found: &Result<TypeKey, KeyFault>) -> bool {
+    match found {
+        Ok(_) => false,
+        Err(fault) => *fault == KeyFault::Index,
+    }
+}
+
 #[test]
 fn replaces_classes_and_variables(rt: HostRuntime) -> Result<(), Fail> {
     let classes = [(8, key(rt.alloc(), &[PAIR])?)];
@@ -187,26 +293,21 @@ fn replaces_classes_and_variables(rt: HostRuntime) -> Result<(), Fail> {
         SigPart::Vector,
         SigPart::Var(0),
     ]?);
-    let lacks = substitute(rt.alloc(), &sig, &classes, &[]).err();
-    assert_eq!(rt; lacks, Some(KeyFault::Index));
-    let found = substitute(rt.alloc(), &sig, &classes, &args)?;
-    let parts: &[KeyPart] = &[
-        KeyPart::Class {
-            assembly: 1,
-            row: 2,
-            args: 2,
-        },
-        PAIR,
-        KeyPart::Vector,
-        KEY_OF_INT32,
-    ];
-    assert_eq!(rt; found.key().parts(), parts);
-    assert!(rt; found.element(rt.alloc())?.is_none());
-    let keys = found.made_of(rt.alloc())?;
-    assert_eq!(rt; keys.len(), 2);
-    assert!(rt; keys[0] == classes[0].1 && keys[0] != keys[1]);
+    let none: [TypeKey; 0] = [];
+    assert!(rt; lacks(&substitute(rt.alloc(), &sig, &classes, &none)));
+    assert!(rt; is_pair(&substitute(rt.alloc(), &sig, &classes, &args)));
+    Ok(())
+}
+
+#[test]
+fn tells_what_keys_are_made_of(rt: HostRuntime) -> Result<(), Fail> {
+    let pair = key(rt.alloc(), &PAIR_OF_TWO)?;
+    assert!(rt; pair.element(rt.alloc())?.is_none());
+    let keys = pair.made_of(rt.alloc())?;
+    assert!(rt; keys.len() == 2);
+    assert!(rt; keys[0].key().parts() == [PAIR].as_slice() && keys[0] != keys[1]);
     let element = keys[1].element(rt.alloc())?;
-    assert!(rt; element.as_ref() == Some(&args[0]));
+    assert!(rt; element == Some(key(rt.alloc(), &[KEY_OF_INT32])?));
     Ok(())
 }
 
@@ -225,9 +326,9 @@ fn bounds_keys(rt: HostRuntime) -> Result<(), Fail> {
         for _ in 0..times {
             args = [substitute(rt.alloc(), sig, &classes, &args)?];
         }
-        assert_eq!(rt; args[0].key().parts().len(), nodes);
+        assert!(rt; args[0].key().parts().len() == nodes);
         let deep = substitute(rt.alloc(), sig, &classes, &args).err();
-        assert_eq!(rt; deep, Some(KeyFault::Deep));
+        assert!(rt; deep == Some(KeyFault::Deep));
     }
     Ok(())
 }
@@ -241,15 +342,13 @@ fn shares_across_threads(rt: HostRuntime) -> Result<(), Fail> {
         move || moved.key().parts().len(),
         || pair.key().parts().len(),
     );
-    assert_eq!(rt; theirs, 1);
-    assert_eq!(rt; ours, 1);
-    assert!(rt; pair.share(rt.alloc())? == pair);
+    assert!(rt; theirs == 1 && ours == 1);
     Ok(())
 }
 
 #[test]
 fn names_features(rt: HostRuntime) {
-    assert_eq!(rt; Feature::MultiModule.text(), b"multi-module".as_slice());
-    assert_eq!(rt; Feature::of_text(b"value-type"), Some(Feature::ValueType));
-    assert_eq!(rt; Feature::of_text(b"Float"), None);
+    assert!(rt; Feature::MultiModule.text() == b"multi-module".as_slice());
+    assert!(rt; Feature::of_text(b"value-type") == Some(Feature::ValueType));
+    assert!(rt; Feature::of_text(b"Float").is_none());
 }

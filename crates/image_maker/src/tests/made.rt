@@ -67,14 +67,17 @@ fn put_head(found: &mut Vec<u8>, image: &AssemblyImage) -> Result<(), AllocError
     let name = image.text(table::ASSEMBLY, 1, column::ASSEMBLY_NAME);
     let version = image.version();
     found.extend_from_slice(name.as_bytes())?;
-    found.extend_from_slice(b" ")?;
-    found.extend_from_slice(&version.major.to_le_bytes()[..1])?;
-    found.extend_from_slice(&version.minor.to_le_bytes()[..1])?;
-    found.extend_from_slice(&version.build.to_le_bytes()[..1])?;
-    found.extend_from_slice(&version.revision.to_le_bytes()[..1])?;
-    found.extend_from_slice(b" ")?;
+    found.push(b' ')?;
+    found.extend_from_slice(&[low(version.major), low(version.minor)])?;
+    found.extend_from_slice(&[low(version.build), low(version.revision)])?;
+    found.push(b' ')?;
     put_counts(found, image)?;
     found.extend_from_slice(b" ")
+}
+
+/// The lowest byte.
+fn low(number: u16) -> u8 {
+    number.to_le_bytes()[0]
 }
 
 fn put_counts(found: &mut Vec<u8>, image: &AssemblyImage) -> Result<(), AllocError> {
@@ -90,10 +93,10 @@ fn put_counts(found: &mut Vec<u8>, image: &AssemblyImage) -> Result<(), AllocErr
 fn put_method(found: &mut Vec<u8>, image: &AssemblyImage, n: u32) -> Result<(), AllocError> {
     let name = image.text(table::METHOD_DEF, n, column::METHOD_DEF_NAME);
     found.extend_from_slice(name.as_bytes())?;
-    found.extend_from_slice(b"(")?;
+    found.push(b'(')?;
     let sig = image.blob(table::METHOD_DEF, n, column::METHOD_DEF_SIGNATURE);
     found.extend_from_slice(sig)?;
-    found.extend_from_slice(b")")?;
+    found.push(b')')?;
     found.extend_from_slice(body(image, n))?;
     found.extend_from_slice(b";")
 }
@@ -125,20 +128,22 @@ fn image(rt: &impl Abort, alloc: Global, which: SampleName) -> Result<AssemblyIm
     Ok(read_image(alloc, Arc::new(alloc, made)?)?)
 }
 
+static SAMPLES: [(SampleName, &[u8]); 8] = [
+    (SampleName::Lib1, LIB1),
+    (SampleName::Lib2, LIB2),
+    (SampleName::Lib19, LIB19),
+    (SampleName::Use, USE),
+    (SampleName::Gen, GEN),
+    (SampleName::Deep, DEEP),
+    (SampleName::Ops, OPS),
+    (SampleName::Rel, REL),
+];
+
 #[test]
 fn reads_as_each_sample(rt: HostRuntime) -> Result<(), Fail> {
-    for (which, want) in [
-        (SampleName::Lib1, LIB1),
-        (SampleName::Lib2, LIB2),
-        (SampleName::Lib19, LIB19),
-        (SampleName::Use, USE),
-        (SampleName::Gen, GEN),
-        (SampleName::Deep, DEEP),
-        (SampleName::Ops, OPS),
-        (SampleName::Rel, REL),
-    ] {
-        let found = seen(&rt, rt.alloc(), which)?;
-        assert!(rt; found.as_slice() == want, "{which:?}");
+    for (which, wanted) in &SAMPLES {
+        let found = seen(&rt, rt.alloc(), *which)?;
+        assert!(rt; found.as_slice() == *wanted, "{which:?}");
     }
     Ok(())
 }

@@ -11,13 +11,13 @@ returns-then-heap-at-lt128 c =
     let heap = c.args.heap.now in
     let at = c.args.at in
     let inside = zero_inside heap at c.args.len c.requires.zero c.if-len-eq0.false
-    c.if-len-eq-STRING_LIMIT.false in
+    c.if-len-eq-LONGEST_WITH_ZERO.false in
     c.requires.starts.each (at + 1) (omega arith) (omega arith) false
-    ∙ ascii_at heap at c.args.len c.requires.zero c.if-len-eq0.false c.if-len-eq-STRING_LIMIT.false
+    ∙ ascii_at heap at c.args.len c.requires.zero c.if-len-eq0.false c.if-len-eq-LONGEST_WITH_ZERO.false
     c.if-heap-at-lt128.true
 
 pub returns : goal.returns
 returns c =
     c.begins_wide.ensures
     ∙ more_at c.args.heap.now c.args.at c.args.len c.requires.zero c.if-len-eq0.false
-    c.if-len-eq-STRING_LIMIT.false c.if-heap-at-lt128.false
+    c.if-len-eq-LONGEST_WITH_ZERO.false c.if-heap-at-lt128.false
