@@ -1,7 +1,7 @@
 -- What the text of a line tells (own: the reader's view, which no promise cites).
 use Rattle.std.specs.Prelude.{ℕ, List, Option, Some, None, option_map, if◌then◌else◌, codes}
 use Rattle.std.specs.Str.{bytes_eq}
-use Rattle.host_events.specs.declared.journal.Entry.{Entry}
+use Rattle.host_events.specs.declared.event.Event.{Event}
 use Rattle.host_report.specs.declared.told.Told.{Told}
 use Rattle.host_report.specs.declared.told.Told.TheVariants as lines
 use Rattle.host_report.specs.EventReading.{event_read}
@@ -12,13 +12,18 @@ use Rattle.host_report.specs.Reading.{then_read}
 use Rattle.host_report.specs.ReplyReading.{reply_read}
 use Rattle.host_report.specs.TextReading.{units_read}
 
+-- the entry of a number, a thread and an event, and of the word before the reply, and that
+abbrev pub answered_read : ℕ → ℕ → Event → List ℕ → Option Told
+answered_read number thread event text =
+    option_map (λ reply. lines.Entry number (record { thread = thread; event = event; reply = reply }))
+    (reply_read (word_read text).1)
+
 -- the entry of a number, and of what stands behind that
 abbrev pub entry_read : ℕ → List ℕ → Option Told
 entry_read number text =
     then_read (number_read text) (λ thread rest.
     then_read (event_read rest) (λ event rest.
-    option_map (λ reply. lines.Entry number (record { thread = thread; event = event; reply = reply }))
-    (reply_read (word_read rest).1)))
+    answered_read number thread event rest))
 
 -- what a line tells whose first word this is, and of what stands behind that
 abbrev pub named_line : List ℕ → List ℕ → List ℕ → Option Told

@@ -6,7 +6,8 @@ use Rattle.std.specs.Str.{bytes_eq}
 use Rattle.host_events.specs.declared.journal.Entry.{Entry}
 use Rattle.host_events.specs.declared.outcome.CommandEnd.{CommandEnd}
 use Rattle.host_report.specs.declared.draft.Draft.{Draft}
-use Rattle.host_report.specs.declared.draft.Draft.TheVariants as drafts
+use Rattle.host_report.specs.declared.draft.Part.{Part}
+use Rattle.host_report.specs.declared.draft.Part.TheVariants as parts
 use Rattle.host_report.specs.declared.told.Told.{Told}
 use Rattle.host_report.specs.declared.told.Told.TheVariants as tolds
 use Rattle.host_report.specs.Fields.{front_text}
@@ -112,12 +113,15 @@ pub record IsReached (text rest : List ℕ) (line : ℕ) (stage : Stage) : Type 
   pub counted : line ≡ length before + 1
 
 -- the stage of what was read so far
+abbrev pub stage_at : Part → Draft → Stage
+stage_at parts.Head draft = Stage.Head
+stage_at parts.Start draft = Stage.Start
+stage_at parts.Threads draft = Stage.Thread draft.ends.items draft.commands.items draft.printed.items
+stage_at parts.Journal draft = Stage.Journal draft.ends.items draft.count draft.entries.items
+stage_at parts.Whole draft = Stage.Whole draft.ends.items draft.entries.items
+
 abbrev pub stage : Draft → Stage
-stage drafts.Head = Stage.Head
-stage drafts.Start = Stage.Start
-stage (drafts.Thread threads) = Stage.Thread threads.ends.items threads.commands.items threads.printed.items
-stage (drafts.Journal entries) = Stage.Journal entries.ends.items entries.count entries.entries.items
-stage (drafts.Whole ends entries) = Stage.Whole ends.items entries.items
+stage draft = stage_at draft.part draft
 
 -- what was read is not a whole report, or more follows
 abbrev pub IsUnfinished : Stage → List ℕ → Type 0

@@ -1,44 +1,42 @@
 // A report, as far as it was read.
-ghost use Rattle.host_report.specs.LineStages.{stage, start_after, told_after};
+ghost use Rattle.std.specs.Prelude.{◌≡◌, [], ◌∷◌, ◌++◌, Some};
+ghost use Rattle.host_report.specs.LineStages.{Stage, journal_after, stage, start_after};
+ghost use Rattle.host_report.specs.LineStages.{thread_after, told_after};
 ghost use Rattle.host_report.specs.Reading.{Reads};
+ghost use Rattle.host_report.specs.declared.draft.Part.{Part};
 
 use crate::told::Told;
 use crate::unread::Unread;
 use cli_words::Units;
 use host_events::{CommandEnd, End, Entry, Lines, Listed, Outcome};
 use std::alloc::Global;
+use std::mem;
 
 /// How much of a report was read.
-#[derive(Drop)]
-pub(crate) enum Draft {
+#[derive(Clone, Copy)]
+pub(crate) enum Part {
     /// Nothing.
     Head,
     /// Its first line.
     Start,
-    /// Lines of threads.
-    Thread(Threads),
-    /// All threads, and lines of the journal.
-    Journal(Entries),
-    /// All of it: how the commands of each thread ended, and the journal.
-    Whole(Vec<End>, Vec<Entry>),
+    /// Lines of threads, of which the last has not ended.
+    Threads,
+    /// All threads, and lines of the journal, which has not ended.
+    Journal,
+    /// All of it.
+    Whole,
 }
 
-/// Threads, of which the last has not ended.
+/// What was read of a report.
 #[derive(Drop)]
-pub(crate) struct Threads {
-    /// The threads that ended.
+pub(crate) struct Draft {
+    pub part: Part,
+    /// How the commands ended of each thread that ended.
     pub ends: Vec<End>,
     /// The commands of the thread after these.
     pub commands: Vec<CommandEnd>,
     /// What the next command printed.
     pub printed: Vec<Units>,
-}
-
-/// A journal that has not ended.
-#[derive(Drop)]
-pub(crate) struct Entries {
-    /// All threads.
-    pub ends: Vec<End>,
     /// How many entries the journal has.
     pub count: u32,
     /// Those so far.
@@ -46,195 +44,197 @@ pub(crate) struct Entries {
 }
 
 impl Draft {
-    /// Takes the next line behind the first. `Differs` where no report goes on so.
-    pub fn take(self, alloc: Global, told: Told) -> Result<Draft, Unread>
-        ensures { Reads (λ draft. stage draft) result (told_after (stage self) told) }
+    /// Before the first line.
+    pub fn new(alloc: Global) -> Draft
+        ensures { stage result ≡ Stage.Head }
     {
-        match self {
-            Draft::Head => Err(Unread::Differs),
-            Draft::Start => begin(alloc, told),
-            Draft::Thread(threads) => threads.take(alloc, told),
-            Draft::Journal(entries) => entries.take(told),
-            Draft::Whole(_, _) => Err(Unread::Differs),
-        }
-    }
-}
-
-// What comes behind the first line.
-fn begin(alloc: Global, told: Told) -> Result<Draft, Unread>
-    ensures { Reads (λ draft. stage draft) result (start_after told) }
-{
-    match told {
-        Told::Thread(thread) => {
-            if thread != 1 {
-                return Err(Unread::Differs);
-            }
-            Ok(Draft::Thread(Threads {
-                ends: Vec::new(alloc),
-                commands: Vec::new(alloc),
-                printed: Vec::new(alloc),
-            }))
-        }
-        Told::Print(_) => Err(Unread::Differs),
-        Told::Outcome(_) => Err(Unread::Differs),
-        Told::Journal(count) => Ok(Draft::Journal(Entries {
+        Draft {
+            part: Part::Head,
             ends: Vec::new(alloc),
-            count,
+            commands: Vec::new(alloc),
+            printed: Vec::new(alloc),
+            count: 0,
             entries: Vec::new(alloc),
-        })),
-        Told::Entry(_, _) => Err(Unread::Differs),
-        Told::End => Err(Unread::Differs),
+        }
     }
-}
 
-impl Threads {
-    fn take(self, alloc: Global, told: Told) -> Result<Draft, Unread>
-        ensures { Reads (λ draft. stage draft) result (told_after (stage (Draft.Thread self)) told) }
+    /// Takes the next line behind the first. `Differs` where no report goes on so.
+    pub fn take(&mut self, alloc: Global, told: Told) -> Result<(), Unread>
+        ensures { Reads (λ _. stage self.new) result (told_after (stage self.old) told) }
     {
         match told {
-            Told::Thread(thread) => self.begin(alloc, thread),
-            Told::Print(printed) => self.print(printed),
-            Told::Outcome(outcome) => self.end(alloc, outcome),
-            Told::Journal(count) => self.close(alloc, count),
-            Told::Entry(_, _) => Err(Unread::Differs),
-            Told::End => Err(Unread::Differs),
+            Told::Thread(thread) => self.take_thread(alloc, thread),
+            Told::Print(printed) => self.take_print(printed),
+            Told::Outcome(outcome) => self.take_outcome(alloc, outcome),
+            Told::Journal(count) => self.take_journal(alloc, count),
+            Told::Entry(number, entry) => self.take_entry(number, entry),
+            Told::End => self.take_end(),
         }
+    }
+
+    fn take_thread(&mut self, alloc: Global, thread: u32) -> Result<(), Unread>
+        ensures { Reads (λ _. stage self.new) result
+            (told_after (stage self.old) (Told.Thread thread)) }
+    {
+        match self.part {
+            Part::Start => self.begin_thread(thread),
+            Part::Threads => self.next_thread(alloc, thread),
+            Part::Head | Part::Journal | Part::Whole => Err(Unread::Differs),
+        }
+    }
+
+    // The first thread begins.
+    fn begin_thread(&mut self, thread: u32) -> Result<(), Unread>
+        ensures { Reads (λ _. stage self.new) result (start_after (Told.Thread thread)) }
+    {
+        if thread != 1 {
+            return Err(Unread::Differs);
+        }
+        self.part = Part::Threads;
+        self.ends.clear();
+        self.commands.clear();
+        self.printed.clear();
+        Ok(())
     }
 
     // The next thread begins.
-    fn begin(self, alloc: Global, thread: u32) -> Result<Draft, Unread>
-        ensures { Reads (λ draft. stage draft) result
-            (told_after (stage (Draft.Thread self)) (Told.Thread thread)) }
+    fn next_thread(&mut self, alloc: Global, thread: u32) -> Result<(), Unread>
+        requires { self.old.part ≡ Part.Threads }
+        ensures { Reads (λ _. stage self.new) result
+            (thread_after self.old.ends.items self.old.commands.items self.old.printed.items
+            (Told.Thread thread)) }
     {
-        let Threads {
-            ends,
-            commands,
-            printed,
-        } = self;
-        if !printed.is_empty() || thread as usize != ends.len() + 2 {
+        if !self.printed.is_empty() || thread as usize != self.ends.len() + 2 {
             return Err(Unread::Differs);
         }
-        let mut ends = ends;
-        ends.push(Listed::of(commands))?;
-        Ok(Draft::Thread(Threads {
-            ends,
-            commands: Vec::new(alloc),
-            printed: Vec::new(alloc),
-        }))
+        self.end_thread(alloc)
+    }
+
+    // The last thread ends.
+    fn end_thread(&mut self, alloc: Global) -> Result<(), Unread>
+        ensures ended { Reads (λ _. self.new.ends.items) result
+            (Some (self.old.ends.items ++ self.old.commands.items ∷ [])) }
+        ensures empty { self.new.commands.items ≡ [] }
+        ensures part { self.new.part ≡ self.old.part }
+        ensures printed { self.new.printed ≡ self.old.printed }
+        ensures entries { self.new.entries ≡ self.old.entries }
+    {
+        let commands = mem::replace(&mut self.commands, Vec::new(alloc));
+        self.ends.push(Listed::of(commands))?;
+        Ok(())
     }
 
     // The next command prints.
-    fn print(self, units: Units) -> Result<Draft, Unread>
-        ensures { Reads (λ draft. stage draft) result
-            (told_after (stage (Draft.Thread self)) (Told.Print units)) }
+    fn take_print(&mut self, units: Units) -> Result<(), Unread>
+        ensures { Reads (λ _. stage self.new) result
+            (told_after (stage self.old) (Told.Print units)) }
     {
-        let Threads {
-            ends,
-            commands,
-            printed,
-        } = self;
-        let mut printed = printed;
-        printed.push(units)?;
-        Ok(Draft::Thread(Threads {
-            ends,
-            commands,
-            printed,
-        }))
+        match self.part {
+            Part::Threads => Ok(self.printed.push(units)?),
+            Part::Head | Part::Start | Part::Journal | Part::Whole => Err(Unread::Differs),
+        }
     }
 
     // The next command ends.
-    fn end(self, alloc: Global, outcome: Outcome) -> Result<Draft, Unread>
-        ensures { Reads (λ draft. stage draft) result
-            (told_after (stage (Draft.Thread self)) (Told.Outcome outcome)) }
+    fn take_outcome(&mut self, alloc: Global, outcome: Outcome) -> Result<(), Unread>
+        ensures { Reads (λ _. stage self.new) result
+            (told_after (stage self.old) (Told.Outcome outcome)) }
     {
-        let Threads {
-            ends,
-            commands,
-            printed,
-        } = self;
-        let mut commands = commands;
-        let lines = Lines::of(printed);
-        commands.push(CommandEnd { lines, outcome })?;
-        Ok(Draft::Thread(Threads {
-            ends,
-            commands,
-            printed: Vec::new(alloc),
-        }))
-    }
-
-    // The journal begins.
-    fn close(self, alloc: Global, count: u32) -> Result<Draft, Unread>
-        ensures { Reads (λ draft. stage draft) result
-            (told_after (stage (Draft.Thread self)) (Told.Journal count)) }
-    {
-        let Threads {
-            ends,
-            commands,
-            printed,
-        } = self;
-        if !printed.is_empty() {
-            return Err(Unread::Differs);
-        }
-        let mut ends = ends;
-        ends.push(Listed::of(commands))?;
-        Ok(Draft::Journal(Entries {
-            ends,
-            count,
-            entries: Vec::new(alloc),
-        }))
-    }
-}
-
-impl Entries {
-    fn take(self, told: Told) -> Result<Draft, Unread>
-        ensures { Reads (λ draft. stage draft) result (told_after (stage (Draft.Journal self)) told) }
-    {
-        match told {
-            Told::Thread(_) => Err(Unread::Differs),
-            Told::Print(_) => Err(Unread::Differs),
-            Told::Outcome(_) => Err(Unread::Differs),
-            Told::Journal(_) => Err(Unread::Differs),
-            Told::Entry(number, entry) => self.add(number, entry),
-            Told::End => self.close(),
+        match self.part {
+            Part::Threads => self.end_command(alloc, outcome),
+            Part::Head | Part::Start | Part::Journal | Part::Whole => Err(Unread::Differs),
         }
     }
 
-    fn add(self, number: u32, entry: Entry) -> Result<Draft, Unread>
-        ensures { Reads (λ draft. stage draft) result
-            (told_after (stage (Draft.Journal self)) (Told.Entry number entry)) }
+    fn end_command(&mut self, alloc: Global, outcome: Outcome) -> Result<(), Unread>
+        requires { self.old.part ≡ Part.Threads }
+        ensures { Reads (λ _. stage self.new) result
+            (thread_after self.old.ends.items self.old.commands.items self.old.printed.items
+            (Told.Outcome outcome)) }
     {
-        let Entries {
-            ends,
-            count,
-            entries,
-        } = self;
-        if number as usize != entries.len() + 1 {
-            return Err(Unread::Differs);
-        }
-        if entries.len() >= count as usize {
-            return Err(Unread::Differs);
-        }
-        let mut entries = entries;
-        entries.push(entry)?;
-        Ok(Draft::Journal(Entries {
-            ends,
-            count,
-            entries,
-        }))
+        let lines = Lines::of(mem::replace(&mut self.printed, Vec::new(alloc)));
+        self.commands.push(CommandEnd { lines, outcome })?;
+        Ok(())
     }
 
-    fn close(self) -> Result<Draft, Unread>
-        ensures { Reads (λ draft. stage draft) result
-            (told_after (stage (Draft.Journal self)) Told.End) }
+    fn take_journal(&mut self, alloc: Global, count: u32) -> Result<(), Unread>
+        ensures { Reads (λ _. stage self.new) result
+            (told_after (stage self.old) (Told.Journal count)) }
     {
-        let Entries {
-            ends,
-            count,
-            entries,
-        } = self;
-        if entries.len() != count as usize {
+        match self.part {
+            Part::Start => {
+                self.ends.clear();
+                self.begin_journal(count);
+                Ok(())
+            }
+            Part::Threads => self.close_threads(alloc, count),
+            Part::Head | Part::Journal | Part::Whole => Err(Unread::Differs),
+        }
+    }
+
+    // The journal begins behind the last thread.
+    fn close_threads(&mut self, alloc: Global, count: u32) -> Result<(), Unread>
+        ensures { Reads (λ _. stage self.new) result
+            (thread_after self.old.ends.items self.old.commands.items self.old.printed.items
+            (Told.Journal count)) }
+    {
+        if !self.printed.is_empty() {
             return Err(Unread::Differs);
         }
-        Ok(Draft::Whole(ends, entries))
+        self.end_thread(alloc)?;
+        self.begin_journal(count);
+        Ok(())
+    }
+
+    fn begin_journal(&mut self, count: u32)
+        ensures { stage self.new ≡ Stage.Journal self.old.ends.items count [] }
+    {
+        self.part = Part::Journal;
+        self.count = count;
+        self.entries.clear();
+    }
+
+    fn take_entry(&mut self, number: u32, entry: Entry) -> Result<(), Unread>
+        ensures { Reads (λ _. stage self.new) result
+            (told_after (stage self.old) (Told.Entry number entry)) }
+    {
+        match self.part {
+            Part::Journal => self.add(number, entry),
+            Part::Head | Part::Start | Part::Threads | Part::Whole => Err(Unread::Differs),
+        }
+    }
+
+    fn add(&mut self, number: u32, entry: Entry) -> Result<(), Unread>
+        requires { self.old.part ≡ Part.Journal }
+        ensures { Reads (λ _. stage self.new) result
+            (journal_after self.old.ends.items self.old.count self.old.entries.items
+            (Told.Entry number entry)) }
+    {
+        let count = self.entries.len();
+        if number as usize != count + 1 || count >= self.count as usize {
+            return Err(Unread::Differs);
+        }
+        self.entries.push(entry)?;
+        Ok(())
+    }
+
+    fn take_end(&mut self) -> Result<(), Unread>
+        ensures { Reads (λ _. stage self.new) result (told_after (stage self.old) Told.End) }
+    {
+        match self.part {
+            Part::Journal => self.close(),
+            Part::Head | Part::Start | Part::Threads | Part::Whole => Err(Unread::Differs),
+        }
+    }
+
+    fn close(&mut self) -> Result<(), Unread>
+        ensures { Reads (λ _. stage self.new) result
+            (journal_after self.old.ends.items self.old.count self.old.entries.items Told.End) }
+    {
+        if self.entries.len() != self.count as usize {
+            return Err(Unread::Differs);
+        }
+        self.part = Part::Whole;
+        Ok(())
     }
 }

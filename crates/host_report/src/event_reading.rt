@@ -253,7 +253,7 @@ fn store(alloc: Global, rest: &[u8]) -> Result<(Event, &[u8]), Unread>
     Ok((Event::StoreStatic { key, field, value }, rest))
 }
 
-/// A value. None is a reference.
+/// A value: a number, a text or null. It is never a reference, since no event stores one.
 pub(crate) fn value(alloc: Global, rest: &[u8]) -> Result<(Datum<Units>, &[u8]), Unread>
     ensures { Reads (λ x. (x.0, x.1.now)) result (value_read (λ units. units) rest.now) }
 {

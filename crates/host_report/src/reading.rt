@@ -9,7 +9,7 @@ ghost use Rattle.host_report.specs.Reading.{Reads};
 ghost use Rattle.host_report.specs.Told.{told_fields};
 
 use crate::collected::Collected;
-use crate::draft::Draft;
+use crate::draft::{Draft, Part};
 use crate::line::{Line, flush};
 use crate::told::{Told, put_told, read_told};
 use crate::unread::Unread;
@@ -55,15 +55,15 @@ pub fn read_report(alloc: Global, bytes: &[u8]) -> Result<ReadBack, ReportFault>
     let Ok(mut printer) = new_printer(alloc) else {
         return Err(ReportFault::OutOfMemory);
     };
-    let mut draft = Draft::Head;
+    let mut draft = Draft::new(alloc);
     let mut rest = bytes;
     let mut line = 1;
     while let Some((own, after)) = next_line(rest) {
-        draft = match next_draft(alloc, &mut printer, draft, own) {
-            Ok(next) => next,
+        match take_line(alloc, &mut printer, &mut draft, own) {
+            Ok(()) => {}
             Err(Unread::Differs) => return Err(ReportFault::At { line }),
             Err(Unread::OutOfMemory) => return Err(ReportFault::OutOfMemory),
-        };
+        }
         rest = after;
         line += 1;
     }
@@ -90,23 +90,31 @@ fn next_line(rest: &[u8]) -> Option<(&[u8], &[u8])>
     Some((&rest[..at], &rest[at + 1..]))
 }
 
-// What was read with the next line.
-fn next_draft(
+// Takes the next line.
+fn take_line(
     alloc: Global,
     printer: &mut Printer,
-    draft: Draft,
+    draft: &mut Draft,
     line: &[u8],
-) -> Result<Draft, Unread>
-    ensures { Reads (λ next. stage next) result (stage_after (stage draft) line.now) }
+) -> Result<(), Unread>
+    ensures { Reads (λ _. stage draft.new) result (stage_after (stage draft.old) line.now) }
 {
-    if let Draft::Head = draft {
-        if line == b"alc 1".as_slice() {
-            return Ok(Draft::Start);
-        }
-        return Err(Unread::Differs);
+    if let Part::Head = draft.part {
+        return take_head(draft, line);
     }
     let told = read_line(alloc, printer, line)?;
     draft.take(alloc, told)
+}
+
+// Takes the first line.
+fn take_head(draft: &mut Draft, line: &[u8]) -> Result<(), Unread>
+    ensures { Reads (λ _. stage draft.new) result (stage_after Stage.Head line.now) }
+{
+    if line != b"alc 1".as_slice() {
+        return Err(Unread::Differs);
+    }
+    draft.part = Part::Start;
+    Ok(())
 }
 
 // What a line tells, which has to be spelled just so.
@@ -149,12 +157,13 @@ fn whole(draft: Draft, rest: &[u8]) -> Option<ReadBack>
     ensures all { IfSome result (λ read. rest.now ≡ []) }
     ensures none { IfNone result (IsUnfinished (stage draft) rest.now) }
 {
-    let Draft::Whole(ends, entries) = draft else {
+    let Part::Whole = draft.part else {
         return None;
     };
     if !rest.is_empty() {
         return None;
     }
+    let Draft { ends, entries, .. } = draft;
     Some(ReadBack {
         ends: Listed::of(ends),
         journal: Listed::of(entries),

@@ -140,7 +140,7 @@ fn numbers(alloc: Global, text: &[u8]) -> Result<Vec<u32>, Unread>
     Ok(numbers)
 }
 
-// A value. None is a reference.
+// A value: a number, a text or null. It is never a reference, since no reply gives one.
 fn text_value(alloc: Global, rest: &[u8]) -> Result<(Datum<Text>, &[u8]), Unread>
     ensures { Reads (λ x. (x.0, x.1.now)) result (value_read sealed rest.now) }
 {

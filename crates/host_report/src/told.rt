@@ -2,7 +2,7 @@
 ghost use Rattle.std.specs.Prelude.{◌≡◌, ◌+◌, List, [], ◌∷◌, ◌++◌, codes, option_map};
 ghost use Rattle.host_report.specs.Fields.{line_text};
 ghost use Rattle.host_report.specs.Line.{Puts};
-ghost use Rattle.host_report.specs.LineReading.{entry_read, told_read, worded_line};
+ghost use Rattle.host_report.specs.LineReading.{answered_read, entry_read, told_read, worded_line};
 ghost use Rattle.host_report.specs.OutcomeReading.{outcome_read};
 ghost use Rattle.host_report.specs.Reading.{Reads};
 ghost use Rattle.host_report.specs.Told.{told_fields};
@@ -16,7 +16,7 @@ use crate::unread::Unread;
 use crate::words::{number, word};
 use crate::writing::{put_count_line, put_entry, put_outcome_line, put_printed};
 use cli_words::Units;
-use host_events::{Entry, Outcome};
+use host_events::{Entry, Event, Outcome};
 use plug_io::Sink;
 use std::alloc::Global;
 
@@ -90,6 +90,19 @@ fn entry(alloc: Global, count: u32, rest: &[u8]) -> Result<Told, Unread>
 {
     let (thread, rest) = number(rest)?;
     let (event, rest) = event(alloc, rest)?;
+    answered(alloc, count, thread, event, rest)
+}
+
+// The entry of which all but the reply was read.
+fn answered(
+    alloc: Global,
+    count: u32,
+    thread: u32,
+    event: Event,
+    rest: &[u8],
+) -> Result<Told, Unread>
+    ensures { Reads (λ told. told) result (answered_read count thread event rest.now) }
+{
     let (_, rest) = word(rest);
     let reply = reply(alloc, rest)?;
     let entry = Entry {

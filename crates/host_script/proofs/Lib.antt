@@ -1,4 +1,5 @@
 mod ByteLemmas
+mod FirstWordLemmas
 mod ImageLemmas
 mod LineLemmas
 mod NumberLemmas

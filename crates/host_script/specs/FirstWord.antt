@@ -50,3 +50,26 @@ command_word w = or_else (binding_word w) (or_else (handle_word w) (context_word
 -- the first word that is spelled so
 abbrev pub first_word : List ℕ → Option FirstWord
 first_word w = or_else (other_word w) (option_map first.Command (command_word w))
+
+-- how the word is spelled with which a command begins, and the word with which a line begins
+abbrev pub command_spelling : CommandWord → List ℕ
+command_spelling On = codes "on"
+command_spelling Resolving = codes "resolving"
+command_spelling Resolve = codes "resolve"
+command_spelling Load = codes "load"
+command_spelling Bind = codes "bind"
+command_spelling Call = codes "call"
+command_spelling Hold = codes "hold"
+command_spelling Invoke = codes "invoke"
+command_spelling DropHandle = codes "drop"
+command_spelling Weak = codes "weak"
+command_spelling Alive = codes "alive"
+command_spelling New = codes "new"
+command_spelling Unload = codes "unload"
+command_spelling Collect = codes "collect"
+
+abbrev pub spelling : FirstWord → List ℕ
+spelling first.Image = codes "image"
+spelling first.App = codes "app"
+spelling first.Thread = codes "thread"
+spelling (first.Command word) = command_spelling word

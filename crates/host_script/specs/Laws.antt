@@ -1,9 +1,11 @@
 -- Laws over the definitions of this crate (own).
-use Rattle.std.specs.Prelude.{ℕ, ◌≡◌, ◌≤◌, ◌⊎◌, List, length, sum_by}
+use Rattle.std.specs.Prelude.{ℕ, ◌≡◌, ◌≤◌, ◌⊎◌, List, Some, length, sum_by}
 use Rattle.std.specs.List.{AllByRecursion}
+use Rattle.host_script.specs.FirstWord.{first_word, spelling}
 use Rattle.host_script.specs.Script.{Accepts, Refuses}
 use Rattle.host_script.specs.Worded.{AreWorded}
 use Rattle.host_script.specs.declared.cause.LineCause.{LineCause}
+use Rattle.host_script.specs.declared.first_word.FirstWord.{FirstWord}
 use Rattle.host_script.specs.declared.script.Script.{Script}
 
 abbrev pub IsAccepted : List ℕ → Type 0
@@ -43,3 +45,7 @@ abbrev pub AcceptedIsWorded : Type 0
 AcceptedIsWorded =
     (bytes : List ℕ) (script : Script) → Accepts bytes script →
     AllByRecursion (AreWorded (length script.images)) script.threads
+
+-- each word with which a line can begin is read where it is spelled
+abbrev pub EachFirstWordIsRead : Type 0
+EachFirstWordIsRead = (first : FirstWord) → first_word (spelling first) ≡ Some first

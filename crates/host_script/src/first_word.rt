@@ -3,6 +3,8 @@ ghost use Rattle.std.specs.Prelude.{◌≡◌};
 ghost use Rattle.host_script.specs.FirstWord.{first_word, other_word, command_word};
 ghost use Rattle.host_script.specs.FirstWord.{binding_word, handle_word, context_word};
 
+use crate::bytes::same;
+
 /// The word with which a command begins.
 #[derive(Clone, Copy)]
 pub enum CommandWord {
@@ -56,13 +58,13 @@ fn command_word(word: &[u8]) -> Option<CommandWord>
 fn other_word(word: &[u8]) -> Option<FirstWord>
     ensures { result ≡ other_word word.now }
 {
-    if word == b"image".as_slice() {
+    if same(word, b"image") {
         return Some(FirstWord::Image);
     }
-    if word == b"app".as_slice() {
+    if same(word, b"app") {
         return Some(FirstWord::App);
     }
-    if word == b"thread".as_slice() {
+    if same(word, b"thread") {
         return Some(FirstWord::Thread);
     }
     None
@@ -71,19 +73,19 @@ fn other_word(word: &[u8]) -> Option<FirstWord>
 fn binding_word(word: &[u8]) -> Option<CommandWord>
     ensures { result ≡ binding_word word.now }
 {
-    if word == b"on".as_slice() {
+    if same(word, b"on") {
         return Some(CommandWord::On);
     }
-    if word == b"resolving".as_slice() {
+    if same(word, b"resolving") {
         return Some(CommandWord::Resolving);
     }
-    if word == b"resolve".as_slice() {
+    if same(word, b"resolve") {
         return Some(CommandWord::Resolve);
     }
-    if word == b"load".as_slice() {
+    if same(word, b"load") {
         return Some(CommandWord::Load);
     }
-    if word == b"bind".as_slice() {
+    if same(word, b"bind") {
         return Some(CommandWord::Bind);
     }
     None
@@ -92,16 +94,16 @@ fn binding_word(word: &[u8]) -> Option<CommandWord>
 fn handle_word(word: &[u8]) -> Option<CommandWord>
     ensures { result ≡ handle_word word.now }
 {
-    if word == b"call".as_slice() {
+    if same(word, b"call") {
         return Some(CommandWord::Call);
     }
-    if word == b"hold".as_slice() {
+    if same(word, b"hold") {
         return Some(CommandWord::Hold);
     }
-    if word == b"invoke".as_slice() {
+    if same(word, b"invoke") {
         return Some(CommandWord::Invoke);
     }
-    if word == b"drop".as_slice() {
+    if same(word, b"drop") {
         return Some(CommandWord::DropHandle);
     }
     None
@@ -110,19 +112,19 @@ fn handle_word(word: &[u8]) -> Option<CommandWord>
 fn context_word(word: &[u8]) -> Option<CommandWord>
     ensures { result ≡ context_word word.now }
 {
-    if word == b"weak".as_slice() {
+    if same(word, b"weak") {
         return Some(CommandWord::Weak);
     }
-    if word == b"alive".as_slice() {
+    if same(word, b"alive") {
         return Some(CommandWord::Alive);
     }
-    if word == b"new".as_slice() {
+    if same(word, b"new") {
         return Some(CommandWord::New);
     }
-    if word == b"unload".as_slice() {
+    if same(word, b"unload") {
         return Some(CommandWord::Unload);
     }
-    if word == b"collect".as_slice() {
+    if same(word, b"collect") {
         return Some(CommandWord::Collect);
     }
     None

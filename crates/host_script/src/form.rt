@@ -4,6 +4,7 @@ ghost use Rattle.host_script.specs.Words.{texts};
 ghost use Rattle.host_script.specs.Form.{exactly, at_least, form_of, command_form, argument_count};
 ghost use Rattle.host_script.specs.Form.{answer_form, image_or_share};
 
+use crate::bytes::same;
 use crate::first_word::{CommandWord, FirstWord};
 use crate::words::word;
 
@@ -133,7 +134,7 @@ fn answer_form(words: &[&[u8]], at: usize) -> Option<AnswerForm>
 fn image_or_share(word: &[u8]) -> AnswerForm
     ensures { result ≡ image_or_share word.now }
 {
-    if word == b"share".as_slice() {
+    if same(word, b"share") {
         AnswerForm::Share
     } else {
         AnswerForm::Image

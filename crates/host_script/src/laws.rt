@@ -1,6 +1,6 @@
 //! Laws over scripts, which the clauses state. The calls do nothing.
 ghost use Rattle.host_script.specs.Laws.{AcceptedIsSmall, AcceptedIsWorded, IsRefusedOrAccepted};
-ghost use Rattle.host_script.specs.Laws.{HasOneRefusal, HasOneScript};
+ghost use Rattle.host_script.specs.Laws.{EachFirstWordIsRead, HasOneRefusal, HasOneScript};
 ghost use Rattle.host_script.specs.Spelling.{TextsAreSpelled};
 
 /// Bytes are accepted or refused, and never both.
@@ -32,4 +32,9 @@ pub fn accepted_is_worded()
 /// A word is read as a text just where it is spelled as one.
 pub fn texts_are_spelled()
     ensures { TextsAreSpelled }
+{}
+
+/// Each word with which a line can begin is read where it is spelled.
+pub fn first_words_are_read()
+    ensures { EachFirstWordIsRead }
 {}

@@ -23,8 +23,8 @@ pub use cause::{LineCause, ScriptFault};
 pub use command::{Argument, Command, CommandLine, ScriptAnswer};
 pub use images::{ImageLine, ImageLines};
 pub use laws::{
-    accepted_is_small, accepted_is_worded, one_refusal, one_script, refused_or_accepted,
-    texts_are_spelled,
+    accepted_is_small, accepted_is_worded, first_words_are_read, one_refusal, one_script,
+    refused_or_accepted, texts_are_spelled,
 };
 pub use script::{AppLine, Script, read_script};
 

@@ -12,6 +12,7 @@ ghost use Rattle.host_script.specs.Slot.{context_name, wording_of, is_graphic, t
 ghost use Rattle.host_script.specs.Slot.{path_word, version_word, argument_word, fixed_word};
 ghost use Rattle.host_script.specs.Slot.{used_image, text_argument};
 
+use crate::bytes::same;
 use crate::cause::{LineCause, LineFault};
 use crate::command::Argument;
 use crate::images::ImageLines;
@@ -144,10 +145,10 @@ pub fn argument(alloc: Global, word: &[u8]) -> Result<Argument, LineFault>
     if is_quoted(word) {
         return text_argument(alloc, word);
     }
-    if word == b"true".as_slice() {
+    if same(word, b"true") {
         return Ok(Argument::Bool(true));
     }
-    if word == b"false".as_slice() {
+    if same(word, b"false") {
         return Ok(Argument::Bool(false));
     }
     match integer_of(word) {

@@ -1,11 +1,14 @@
-use Rattle.std.proofs.Common.{◌+◌, ◌<◌, ◌≤◌, length, arith}
-use Rattle.host_report.specs.LineStages.{stage, stage_after}
+use Rattle.std.proofs.Common.{◌+◌, ◌<◌, ◌≤◌, length, subst, sym, arith}
+use Rattle.host_report.specs.LineStages.{IsReached, stage, stage_after}
 use Rattle.host_report.proofs.RefusalLemmas.{reached_none, reached_next}
 use Rattle.host_report.proofs.WholeLemmas.{ended, line_length, none_read, refused_at}
 use Rattle.host_report.proofs.reading.read_report.Goals as goal
 
 pub loop-own-init : goal.loop-own-init
-loop-own-init c = record { reached = reached_none c.args.bytes.now; fits = omega arith }
+loop-own-init c = record {
+  reached = subst (λ at. IsReached c.args.bytes.now c.args.bytes.now 1 at) (sym c.new-draft.ensures) (reached_none c.args.bytes.now);
+  fits = omega arith;
+}
 
 pub returns-in-Err-Differs-clause-refused : goal.returns-in-Err-Differs-clause-refused
 returns-in-Err-Differs-clause-refused c =
@@ -29,7 +32,7 @@ loop-own-preserved c =
     let kept = c.loop-own.invariant.fits in
     let fits : c.loop-own.line + 1 + length c.in-Some.after.now ≤ length c.args.bytes.now + 1 = omega (arith, long, kept) in
     record {
-      reached = reached_next c.loop-own.invariant.reached c.in-Some.own.now c.in-Some.after.now (stage c.in-Ok-next_draft.next) c.in-Some.ensures.parted c.in-Some.ensures.unbroken c.in-Ok-next_draft.ensures;
+      reached = reached_next c.loop-own.invariant.reached c.in-Some.own.now c.in-Some.after.now (stage c.take_line.new.draft) c.in-Some.ensures.parted c.in-Some.ensures.unbroken c.in-Ok-take_line.ensures;
       fits = fits;
     }
 
