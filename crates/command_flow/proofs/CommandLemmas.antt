@@ -1,5 +1,5 @@
 -- The first event of a command, and what a reply to it leaves.
-use Rattle.std.proofs.Common.{◌≡◌, ◌∙◌, ◌+◌, ◌≤◌, ℕ, sym, ap, subst, refl, Bool, true, false, List, [], ◌∷◌, Option, Some, None, Ok, Err, arith}
+use Rattle.std.proofs.Common.{◌≡◌, ◌∙◌, ◌+◌, ◌≤◌, ℕ, sym, ap, subst, refl, true, List, [], ◌∷◌, Option, Some, arith}
 use Rattle.std.specs.Option.{option_map_or}
 use Rattle.host_events.specs.declared.event.Event.{Event}
 use Rattle.host_events.specs.declared.event.Event.TheVariants as events
@@ -12,12 +12,10 @@ use Rattle.host_events.specs.Task.{give, ◌>>=◌}
 use Rattle.bind_flow.specs.Images.{World}
 use Rattle.host_script.specs.declared.command.Command.{Command}
 use Rattle.host_script.specs.declared.command.Command.TheVariants as commands
-use Rattle.command_flow.specs.declared.turn.Wait.{Wait}
 use Rattle.command_flow.specs.declared.turn.Wait.TheVariants as waits
 use Rattle.command_flow.specs.Events.{event_of}
 use Rattle.command_flow.specs.Flow.{most_events}
 use Rattle.command_flow.specs.Run.{entered, most_within, runs, runs_event}
-use Rattle.command_flow.specs.State.{leaves, works}
 use Rattle.command_flow.specs.Turns.{first_event, first_wait, work_in}
 use Rattle.command_flow.proofs.WayLemmas.{IsAfter, after-asks, due-asks}
 

@@ -25,7 +25,8 @@ use Rattle.host_script.specs.declared.command.Command.TheVariants as commands
 use Rattle.command_flow.specs.Events.{event_of}
 use Rattle.command_flow.specs.Flow.{most_events}
 use Rattle.command_flow.specs.Run.{ComesTo, with_end, entered, loads, most_within, operates, runs, runs_all, runs_event, within_limit}
-use Rattle.command_flow.proofs.Inner.{IsNamed, Scope, Works, inner_is, is_inner, works-binds, works-loads}
+use Rattle.command_flow.specs.State.{is_inner}
+use Rattle.command_flow.proofs.Inner.{IsNamed, Scope, Works, inner_is, works-binds, works-loads}
 use Rattle.command_flow.proofs.OrderLemmas.{order-loads}
 use Rattle.command_flow.proofs.Places.{AreInner, are_inner, scope_of}
 use Rattle.command_flow.proofs.Ways.{Fact}

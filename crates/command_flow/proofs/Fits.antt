@@ -29,7 +29,8 @@ use Rattle.assembly_image.specs.Reading.{FileReading}
 use Rattle.host_script.specs.declared.command.Command.{Command}
 use Rattle.host_script.specs.declared.command.Command.TheVariants as commands
 use Rattle.command_flow.specs.Laws.{DueEventsFit}
-use Rattle.command_flow.proofs.Inner.{IsInner, IsInnerCandidate, IsNamed, Scope, is_inner}
+use Rattle.command_flow.specs.State.{is_inner}
+use Rattle.command_flow.proofs.Inner.{IsInner, IsInnerCandidate, IsNamed, Scope}
 use Rattle.command_flow.proofs.Places.{AreInner, IsAt, IsOpened, IsUnbegun, IsWhole, due_at, first_event, parts-after, scope_context, scope_of}
 
 -- The trace is all that the thread has in a proper journal.

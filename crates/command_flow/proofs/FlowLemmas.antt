@@ -1,5 +1,5 @@
 -- What a thread asks for, where it goes with the answer, and what its type keeps.
-use Rattle.std.proofs.Common.{◌≡◌, ◌∙◌, ◌+◌, ◌<◌, ◌≤◌, ◌&&◌, ◌||◌, ◌^◌, not, ℕ, zero, suc, sym, ap, subst, refl, inl, inr, Bool, true, false, if◌then◌else◌, List, [], ◌∷◌, ◌++◌, length, slice_get, sum_by, All, Option, Some, None, IsSome, Ok, Err, append_assoc, arith}
+use Rattle.std.proofs.Common.{◌≡◌, ◌∙◌, ◌+◌, ◌<◌, ◌≤◌, ◌&&◌, ◌||◌, not, ℕ, sym, ap, subst, refl, Bool, true, false, if◌then◌else◌, List, [], ◌∷◌, ◌++◌, length, slice_get, sum_by, Option, Some, None, IsSome, Ok, Err, append_assoc, arith}
 use Rattle.std.specs.Option.{option_map_or, option_to_list}
 use Rattle.std.specs.declared.snapshot.Snapshot.{Snapshot}
 use Rattle.std.proofs.lemmas.List.{append-nil, length-append, length-map, length_push, map-append}
@@ -13,18 +13,17 @@ use Rattle.host_events.specs.declared.order.CodeOf.{CodeOf}
 use Rattle.host_events.specs.declared.order.Order.{Order}
 use Rattle.host_events.specs.declared.outcome.CommandEnd.{CommandEnd}
 use Rattle.host_events.specs.declared.outcome.Outcome.{Outcome}
-use Rattle.host_events.specs.declared.outcome.Outcome.TheVariants as outcomes
 use Rattle.host_events.specs.declared.reply.Reply.{Reply}
-use Rattle.host_events.specs.Asking.{Asking, Ending, IsDue, IsWay}
+use Rattle.host_events.specs.Asking.{Asking, IsDue, IsWay}
 use Rattle.host_events.specs.Flows.{IsResumable, Stand, trace_after}
 use Rattle.host_events.specs.Operations.{open_in}
 use Rattle.host_events.specs.Steps.{Step, AgreeWith, step_of, without_codes}
 use Rattle.host_events.specs.Task.{give, look}
-use Rattle.host_events.specs.Task.Why.{Refused, Stopped}
+use Rattle.host_events.specs.Task.Why.{Stopped}
 use Rattle.bind_flow.specs.declared.images.ImageCode.{ImageCode}
-use Rattle.bind_flow.specs.Binds.{EndsWith, binds}
-use Rattle.bind_flow.specs.Flow.{BringsCode, CanCome, Plan as BindPlan, IsAsked as IsBindAsked, IsEnd as IsBindEnd, world_of}
-use Rattle.bind_flow.specs.Images.{World, reading_at}
+use Rattle.bind_flow.specs.Binds.{binds}
+use Rattle.bind_flow.specs.Flow.{BringsCode, CanCome, Plan as BindPlan, IsAsked as IsBindAsked, world_of}
+use Rattle.bind_flow.specs.Images.{World}
 use Rattle.bind_flow.specs.State.{Bind, due_of as bind_due_of, due_with as bind_due_with, has_published, is_publication, stand_of}
 use Rattle.host_script.specs.declared.command.Command.{Command}
 use Rattle.host_script.specs.declared.command.Command.TheVariants as commands
@@ -35,11 +34,11 @@ use Rattle.command_flow.specs.declared.turn.Turn.{Turn}
 use Rattle.command_flow.specs.declared.turn.Turn.TheVariants as turns
 use Rattle.command_flow.specs.declared.turn.Wait.{Wait}
 use Rattle.command_flow.specs.declared.turn.Wait.TheVariants as waits
-use Rattle.command_flow.specs.Flow.{IsAsked, IsEnd, Plan, Progress, due_own, due_with, is_bind, most_events, progress_of}
+use Rattle.command_flow.specs.Flow.{IsAsked, IsEnd, Plan, Progress, due_own, due_with, is_bind, most_events}
 use Rattle.command_flow.specs.Orders.{IsOrder, room_with}
 use Rattle.command_flow.specs.Run.{most_within, loads, runs, runs_all, within_limit}
-use Rattle.command_flow.specs.State.{CanGo, CanResume, CanWait, IsBetween, IsBinding, IsInside, IsKeptUp, IsLeaving, IsLeft, IsLoading, IsStarting, Running, StandsAt, bound_trace, ends_later, goes_on, is_inner, leaves, stand_at, step_told, steps_told, works}
-use Rattle.command_flow.specs.Turns.{CanTurn, IsLoad, first_event, first_wait, opened, order_for, publication, turn_with}
+use Rattle.command_flow.specs.State.{CanGo, CanResume, CanWait, IsBetween, IsBinding, IsInside, IsKeptUp, IsLeaving, IsLeft, IsLoading, IsStarting, Running, StandsAt, bound_trace, ends_later, goes_on, leaves, stand_at, step_told, steps_told, works}
+use Rattle.command_flow.specs.Turns.{CanTurn, first_event, opened, order_for, turn_with}
 use Rattle.command_flow.proofs.AgreeLemmas.{agree-pushed}
 use Rattle.command_flow.proofs.CommandLemmas.{alone-due, enters-due}
 use Rattle.command_flow.proofs.InnerLemmas.{due-inner, inner-no_numbers}

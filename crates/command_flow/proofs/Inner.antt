@@ -1,5 +1,5 @@
 -- What the work within an operation asks for, gives, and is refused with.
-use Rattle.std.proofs.Common.{◌≡◌, ◌⊎◌, ◌==◌, ℕ, zero, suc, refl, sym, inl, inr, Bool, true, false, List, [], ◌∷◌, ◌++◌, Option, Some, None}
+use Rattle.std.proofs.Common.{◌≡◌, ◌⊎◌, ◌==◌, ℕ, zero, suc, refl, sym, inl, inr, true, List, [], ◌∷◌, ◌++◌, Option, Some, None}
 use Rattle.std.specs.Option.{option_and_then}
 use Rattle.cli_words.specs.declared.check.CheckCode.TheVariants as code
 use Rattle.cli_words.specs.declared.check.FailedCheck.{FailedCheck}
@@ -29,6 +29,7 @@ use Rattle.host_events.proofs.Parts.{PartsAt, parts_push}
 use Rattle.bind_flow.specs.Binds.{Wanted, answered, asked_in_order, binds, if_assembly_serves, if_fits, if_module, if_serves, image_published, looked_up, published, publishes, publishes_default, publishes_image, steps_in}
 use Rattle.bind_flow.specs.Images.{World, assembly_version_in, reading_at, version_read}
 use Rattle.command_flow.specs.Run.{loads}
+use Rattle.command_flow.specs.State.{is_inner}
 use Rattle.command_flow.proofs.Ways.{Fact, Goes, goes-asks, goes-give, goes-if_some, goes-never, goes-pick, goes-refuses, goes-then}
 
 -- a reply of the trace named the assembly
@@ -91,13 +92,6 @@ IsInnerRefusal scope (outcomes.BadImage failed) trace = IsBad scope.images faile
 IsInnerRefusal scope (outcomes.NameMismatch name) trace = scope.IsName name
 IsInnerRefusal scope (outcomes.NotCollectible a) trace = IsNamed a trace
 IsInnerRefusal scope _ trace = ⊥
-
--- a test of whether the event is one within an operation
-abbrev pub is_inner : Event → Bool
-is_inner (events.Lookup context name version) = true
-is_inner (events.Ask step context name) = true
-is_inner (events.Publish context name candidate) = true
-is_inner _ = false
 
 pub inner_is : (scope : Scope) (event : Event) (trace : List (Event × Reply)) → IsInner scope event trace → is_inner event ≡ true
 inner_is scope (events.Lookup context name version) trace inner = refl

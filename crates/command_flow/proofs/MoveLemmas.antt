@@ -1,7 +1,6 @@
 -- Why a thread may go on as its code does.
-use Rattle.std.proofs.Common.{◌≡◌, ◌∙◌, ◌+◌, ◌<◌, ◌≤◌, ℕ, sym, ap, subst, refl, Bool, true, false, List, [], ◌∷◌, ◌++◌, length, get_or, slice_get, nat_lt, sum_by, All, Option, Some, None, IsSome, Ok, Err, arith}
-use Rattle.std.specs.Option.{option_map, option_to_list}
-use Rattle.std.specs.declared.snapshot.Snapshot.{Snapshot}
+use Rattle.std.proofs.Common.{◌≡◌, ◌∙◌, ◌<◌, ◌≤◌, ℕ, sym, ap, subst, refl, true, false, List, [], length, get_or, slice_get, nat_lt, All, Option, Some, None, IsSome, Err, arith}
+use Rattle.std.specs.Option.{option_map}
 use Rattle.std.proofs.lemmas.Bool.Decides.{nat_tests}
 use Rattle.std.proofs.lemmas.List.{length-map}
 use Rattle.std.proofs.lemmas.Option.{get_or_from_slice_get, slice_get_read, slice_get_within}
@@ -9,32 +8,25 @@ use Rattle.assembly_image.specs.Reading.{FileReading}
 use Rattle.assembly_name.specs.declared.version.Version.{Version}
 use Rattle.cli_words.specs.declared.check.FailedCheck.{FailedCheck}
 use Rattle.host_events.specs.declared.event.Event.{Event}
-use Rattle.host_events.specs.declared.event.Event.TheVariants as events
 use Rattle.host_events.specs.declared.order.Answer.{Answer}
-use Rattle.host_events.specs.declared.order.CodeOf.{CodeOf}
 use Rattle.host_events.specs.declared.order.Order.{Order}
 use Rattle.host_events.specs.declared.outcome.CommandEnd.{CommandEnd}
 use Rattle.host_events.specs.declared.outcome.Outcome.{Outcome}
 use Rattle.host_events.specs.declared.outcome.Outcome.TheVariants as outcomes
 use Rattle.host_events.specs.declared.reply.Reply.{Reply}
-use Rattle.host_events.specs.Asking.{Asking, Ending, IsDue}
-use Rattle.host_events.specs.Flows.{Stand, trace_after}
-use Rattle.host_events.specs.Operations.{open_in}
-use Rattle.host_events.specs.Steps.{Step, AgreeWith, without_codes}
-use Rattle.host_events.specs.Task.Why.{Refused, Stopped}
+use Rattle.host_events.specs.Asking.{IsDue}
+use Rattle.host_events.specs.Steps.{Step, without_codes}
+use Rattle.host_events.specs.Task.Why.{Refused}
 use Rattle.bind_flow.specs.declared.images.ImageCode.{ImageCode}
-use Rattle.bind_flow.specs.Binds.{Binds, Wanted, binds}
+use Rattle.bind_flow.specs.Binds.{Binds, binds}
 use Rattle.bind_flow.specs.Flow.{Plan as BindPlan, IsAsked as IsBindAsked, IsEnd as IsBindEnd, world_of}
-use Rattle.bind_flow.specs.Images.{World, reading_at}
-use Rattle.bind_flow.specs.State.{Bind, fresh as fresh_bind, stand_of}
+use Rattle.bind_flow.specs.Images.{reading_at}
+use Rattle.bind_flow.specs.State.{Bind, fresh as fresh_bind}
 use Rattle.host_script.specs.declared.command.Command.{Command}
 use Rattle.host_script.specs.declared.command.Command.TheVariants as commands
-use Rattle.command_flow.specs.declared.run.At.{At}
-use Rattle.command_flow.specs.declared.run.At.TheVariants as places
 use Rattle.command_flow.specs.declared.turn.Wait.{Wait}
-use Rattle.command_flow.specs.declared.turn.Wait.TheVariants as waits
-use Rattle.command_flow.specs.Flow.{HasImage, IsAsked, IsLeave, Plan, is_bind, most_events}
-use Rattle.command_flow.specs.Run.{loads, most_within, within_limit}
+use Rattle.command_flow.specs.Flow.{HasImage, IsAsked, Plan, is_bind}
+use Rattle.command_flow.specs.Run.{loads, most_within}
 use Rattle.command_flow.specs.State.{CanResume, CanWait, IsBetween, IsEntered, IsInside, IsLeaving, IsStarting, bound_trace}
 use Rattle.command_flow.specs.Turns.{first_event, first_wait, order_for, refused, work_in}
 use Rattle.command_flow.proofs.FlowLemmas.{asked-first}

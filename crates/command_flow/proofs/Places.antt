@@ -25,7 +25,8 @@ use Rattle.host_script.specs.declared.command.Command.{Command}
 use Rattle.host_script.specs.declared.command.Command.TheVariants as commands
 use Rattle.command_flow.specs.Events.{event_of}
 use Rattle.command_flow.specs.Run.{ComesTo, end_of, with_end, entered, loads, operates, runs, runs_all, runs_event, within_limit}
-use Rattle.command_flow.proofs.Inner.{IsInner, IsInnerRefusal, IsNamed, Scope, Works, bind_scope, inner_is, is_inner, load_scope, works-binds, works-loads}
+use Rattle.command_flow.specs.State.{is_inner}
+use Rattle.command_flow.proofs.Inner.{IsInner, IsInnerRefusal, IsNamed, Scope, Works, bind_scope, inner_is, load_scope, works-binds, works-loads}
 use Rattle.command_flow.proofs.OrderLemmas.{order-loads}
 use Rattle.command_flow.proofs.Ways.{Comes, Fact, Goes, goes-asks, goes-give, goes-never, goes-then}
 

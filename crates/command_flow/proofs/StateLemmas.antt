@@ -1,13 +1,11 @@
 -- How a thread goes from one event to the next.
-use Rattle.std.proofs.Common.{◌≡◌, ◌∙◌, ◌+◌, ◌<◌, ◌≤◌, ◌⊎◌, ℕ, zero, suc, sym, ap, subst, refl, inl, inr, Bool, true, false, List, [], ◌∷◌, ◌++◌, length, slice_get, sum_by, All, Option, Some, None, IsSome, Ok, Err, append_assoc, arith}
-use Rattle.std.specs.Option.{option_to_list}
+use Rattle.std.proofs.Common.{◌≡◌, ◌∙◌, ◌+◌, ◌<◌, ◌≤◌, ℕ, zero, suc, sym, ap, subst, refl, Bool, true, false, List, [], ◌∷◌, ◌++◌, length, slice_get, sum_by, Option, Some, None, IsSome, Ok, append_assoc, arith}
 use Rattle.std.proofs.lemmas.Bool.{eq-eqb}
-use Rattle.std.proofs.lemmas.List.{append-nil, length-append, length-map, length_push, map-append}
+use Rattle.std.proofs.lemmas.List.{append-nil, length-append, length_push}
 use Rattle.std.proofs.lemmas.List.Sums.{sum_by-append, sum_by-cons, sum_by_push}
 use Rattle.host_events.specs.declared.event.Candidate.TheVariants as candidates
 use Rattle.host_events.specs.declared.event.Event.{Event}
 use Rattle.host_events.specs.declared.event.Event.TheVariants as events
-use Rattle.host_events.specs.declared.order.Answer.{Answer}
 use Rattle.host_events.specs.declared.order.CodeOf.{CodeOf}
 use Rattle.host_events.specs.declared.order.Order.{Order}
 use Rattle.host_events.specs.declared.outcome.CommandEnd.{CommandEnd}
@@ -15,8 +13,7 @@ use Rattle.host_events.specs.declared.outcome.Outcome.{Outcome}
 use Rattle.host_events.specs.declared.outcome.Outcome.TheVariants as outcomes
 use Rattle.host_events.specs.declared.reply.Reply.{Reply}
 use Rattle.host_events.specs.declared.reply.Reply.TheVariants as replies
-use Rattle.host_events.specs.Asking.{Asking, Ending, IsDue, IsWay, asks}
-use Rattle.host_events.specs.Flows.{IsResumable, Stand, trace_after}
+use Rattle.host_events.specs.Asking.{Asking, IsWay}
 use Rattle.host_events.specs.Operations.{begun_count, begun_operation, is_command, open_in}
 use Rattle.host_events.specs.Contexts.{named}
 use Rattle.host_events.specs.Bindings.{binding}
@@ -25,22 +22,18 @@ use Rattle.host_events.specs.declared.journal.Entry.{Entry}
 use Rattle.assembly_image.specs.Names.{assembly_name}
 use Rattle.host_events.specs.Steps.{Step, AgreeWith, step_of, without_codes}
 use Rattle.host_events.specs.Task.{give}
-use Rattle.host_events.specs.Task.Why.{Refused, Stopped}
-use Rattle.host_events.proofs.Cases.{enter-each, publish-each}
+use Rattle.host_events.proofs.Cases.{enter-each}
 use Rattle.host_events.proofs.Operations.{begun-command}
 use Rattle.bind_flow.specs.declared.images.ImageCode.{ImageCode}
-use Rattle.bind_flow.specs.Binds.{EndsWith, binds}
 use Rattle.bind_flow.specs.Flow.{CanCome, world_of}
 use Rattle.bind_flow.specs.Images.{World}
-use Rattle.bind_flow.specs.State.{Bind, is_publication, stand_of}
+use Rattle.bind_flow.specs.State.{is_publication}
 use Rattle.host_script.specs.declared.command.Command.{Command}
-use Rattle.command_flow.specs.declared.turn.Turn.{Turn}
-use Rattle.command_flow.specs.declared.turn.Wait.{Wait}
 use Rattle.command_flow.specs.declared.turn.Wait.TheVariants as waits
 use Rattle.command_flow.specs.Flow.{Plan, is_bind, is_last, is_last_by, most_events, progress_of}
 use Rattle.command_flow.specs.Run.{end_of, entered, loads, most_within, runs, within_limit}
-use Rattle.command_flow.specs.State.{CanGo, CanResume, CanWait, IsBetween, IsBinding, IsEntered, IsInside, IsLeaving, IsLeft, IsLoading, IsStarting, IsUnderWay, ends_later, goes_on, is_inner, leaves, works}
-use Rattle.command_flow.specs.Turns.{CanTurn, entered_turn, first_event, first_wait, loaded, loaded_turn, turn_with, work_in}
+use Rattle.command_flow.specs.State.{CanGo, IsBetween, IsEntered, IsInside, IsLeaving, IsLeft, IsLoading, IsStarting, IsUnderWay, ends_later, goes_on, is_inner, leaves, works}
+use Rattle.command_flow.specs.Turns.{entered_turn, loaded, loaded_turn, work_in}
 use Rattle.command_flow.proofs.CommandLemmas.{alone-after, alone-is_command, enters-after, enters-parts, some-event}
 use Rattle.command_flow.proofs.InnerLemmas.{begins_none, inner-begins_none, inner-no_end, inner-not_last}
 use Rattle.command_flow.proofs.StepLemmas.{not_ended, open-begun, open-left, open-none, open-stays, place-last, place-more}

@@ -1,5 +1,5 @@
 -- Ways of tasks that ask for events, and what is left of a thread after its trace.
-use Rattle.std.proofs.Common.{◌≡◌, ◌⊎◌, ◌∙◌, ◌<◌, ◌≤◌, ℕ, sym, ap, subst, refl, inl, inr, List, [], ◌∷◌, ◌++◌, length, Option, Some, None, Result, Ok, Err, append_assoc}
+use Rattle.std.proofs.Common.{◌≡◌, ◌⊎◌, ◌∙◌, ◌<◌, ◌≤◌, ℕ, sym, ap, subst, refl, inl, inr, List, [], ◌∷◌, ◌++◌, length, Option, Some, Ok, Err, append_assoc}
 use Rattle.std.proofs.lemmas.List.{append-nil, map-append}
 use Rattle.assembly_image.specs.Module.{Module}
 use Rattle.assembly_image.specs.Reading.{FileReading}
@@ -14,14 +14,14 @@ use Rattle.host_events.specs.declared.reply.Reply.{Reply}
 use Rattle.host_events.specs.declared.reply.Reply.TheVariants as replies
 use Rattle.host_events.specs.Asking.{Asking, Ending, IsDue, IsWay, asks}
 use Rattle.host_events.specs.Steps.{Step, AgreeWith, without_codes}
-use Rattle.host_events.specs.Task.{Both, Fails, Why, for_each, give, if_some, look, never, ◌>>=◌}
+use Rattle.host_events.specs.Task.{Both, Fails, for_each, give, if_some, look, never, ◌>>=◌}
 use Rattle.host_events.specs.Task.Why.{Refused, Stopped}
 use Rattle.bind_flow.specs.Binds.{EndsWith, if_module, image_published}
 use Rattle.bind_flow.specs.Flow.{world_of}
 use Rattle.bind_flow.specs.Images.{World, reading_at}
 use Rattle.host_script.specs.declared.command.Command.{Command}
 use Rattle.command_flow.specs.Flow.{Plan}
-use Rattle.command_flow.specs.Run.{end_of, with_end, loads, most_within, runs, runs_all, within_limit}
+use Rattle.command_flow.specs.Run.{end_of, with_end, loads, most_within, runs_all, within_limit}
 use Rattle.command_flow.specs.State.{IsLeft, ends_later, goes_on}
 use Rattle.command_flow.specs.Turns.{loaded, publication, refused}
 

@@ -1,5 +1,5 @@
 -- How far a thread's run is (own).
-use Rattle.std.specs.Prelude.{ℕ, ◌≡◌, ◌<◌, ◌≤◌, ◌+◌, ◌^◌, Bool, true, false, List, [], ◌∷◌, ◌++◌, length, map, sum_by, slice_get, All, Option, Some, None, IsSome}
+use Rattle.std.specs.Prelude.{ℕ, ◌≡◌, ◌<◌, ◌≤◌, ◌+◌, ◌^◌, Bool, true, false, List, [], ◌∷◌, ◌++◌, length, map, sum_by, slice_get, All, Option, Some, IsSome}
 use Rattle.std.specs.Option.{option_to_list}
 use Rattle.host_events.specs.declared.event.Event.{Event}
 use Rattle.host_events.specs.declared.event.Event.TheVariants as events

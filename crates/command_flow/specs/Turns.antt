@@ -1,5 +1,5 @@
 -- What a thread does next (own): where it goes with a reply, and what its commands ask for.
-use Rattle.std.specs.Prelude.{ℕ, ◌≡◌, ◌<◌, ◌+◌, Bool, true, false, List, Option, Some, None, IsSome, Ok}
+use Rattle.std.specs.Prelude.{ℕ, ◌≡◌, ◌<◌, ◌+◌, List, Option, Some, None, IsSome}
 use Rattle.cli_words.specs.declared.check.CheckCode.TheVariants as code
 use Rattle.cli_words.specs.declared.check.FailedCheck.{FailedCheck}
 use Rattle.assembly_image.specs.Module.{Module}
@@ -27,7 +27,7 @@ use Rattle.command_flow.specs.declared.turn.Wait.{Wait}
 use Rattle.command_flow.specs.declared.turn.Wait.TheVariants as waits
 use Rattle.command_flow.specs.Events.{event_of}
 use Rattle.command_flow.specs.Orders.{IsOrder, numbers_of, room_with}
-use Rattle.command_flow.specs.Run.{loads, most_within}
+use Rattle.command_flow.specs.Run.{loads}
 
 -- the first event of a command: its one event, or that by which its operation begins
 abbrev pub first_event : Command → Option Event

@@ -12,7 +12,7 @@ ghost use Rattle.command_flow.specs.Turns.{IsLoad, first_event, order_for, publi
 use assembly_image::AssemblyImage;
 use assembly_name::SimpleName;
 use bind_flow::{ImageCode, ImageReading, Images};
-use cli_words::{CheckCode, FailedCheck};
+use cli_words::{CheckCode, FailedCheck, Name};
 use host_events::{Candidate, ContextKind, Event, Numbers, Order, Room, RuleAnswer, RuleAt, Text};
 use host_script::{Command, ScriptAnswer};
 use std::alloc::{AllocError, Global};
@@ -31,13 +31,22 @@ pub fn first_order(alloc: Global, command: &Command) -> Result<Order<ImageCode>,
     ensures order { IfOk result (λ order. order ≡ order_for order.event) }
 {
     let event = first_event(alloc, command)?;
-    let numbers = numbers_of(&event);
+    let again = first_event(alloc, command)?;
+    plain_order(alloc, event, again)
+}
+
+/// The order of an event, which is given twice, without code.
+fn plain_order(alloc: Global, event: Event, again: Event) -> Result<Order<ImageCode>, AllocError>
+    requires { again ≡ event }
+    ensures { IfOk result (λ order. order ≡ order_for event) }
+{
+    let (room, copy) = two_rooms(alloc, numbers_of(&event))?;
     Ok(Order {
         event,
-        again: first_event(alloc, command)?,
+        again,
         code: None,
-        room: room_with(alloc, numbers)?,
-        copy: room_with(alloc, numbers)?,
+        room,
+        copy,
     })
 }
 
@@ -131,32 +140,22 @@ fn first_event(alloc: Global, command: &Command) -> Result<Event, AllocError>
             context,
             name,
             answer,
-        } => Ok(Event::Rule {
-            place: RuleAt::On(context.share(alloc)?),
-            name: name.share(alloc)?,
-            answer: answer_of(alloc, answer)?,
-        }),
+        } => rule(alloc, RuleAt::On(context.share(alloc)?), name, answer),
         Command::Resolving {
             context,
             name,
             answer,
-        } => Ok(Event::Rule {
-            place: RuleAt::Resolving(context.share(alloc)?),
-            name: name.share(alloc)?,
-            answer: answer_of(alloc, answer)?,
-        }),
-        Command::Resolve { name, answer } => Ok(Event::Rule {
-            place: RuleAt::Resolve,
-            name: name.share(alloc)?,
-            answer: answer_of(alloc, answer)?,
-        }),
+        } => rule(
+            alloc,
+            RuleAt::Resolving(context.share(alloc)?),
+            name,
+            answer,
+        ),
+        Command::Resolve { name, answer } => rule(alloc, RuleAt::Resolve, name, answer),
         Command::Load { context, .. } | Command::Bind { context, .. } => Ok(Event::Enter {
             name: context.share(alloc)?,
         }),
-        Command::Weak { handle, context } => Ok(Event::Weak {
-            handle: handle.share(alloc)?,
-            name: context.share(alloc)?,
-        }),
+        Command::Weak { handle, context } => weak(alloc, handle, context),
         Command::Alive { handle } => Ok(Event::Alive {
             handle: handle.share(alloc)?,
         }),
@@ -169,6 +168,32 @@ fn first_event(alloc: Global, command: &Command) -> Result<Event, AllocError>
         | Command::Invoke { .. }
         | Command::DropHandle { .. } => unreachable!(),
     }
+}
+
+/// The event that sets a rule.
+fn rule(
+    alloc: Global,
+    place: RuleAt,
+    name: &SimpleName,
+    answer: &ScriptAnswer,
+) -> Result<Event, AllocError>
+    ensures { IfOk result (λ event. event ≡ events.Rule place name.now (answer_of answer.now)) }
+{
+    Ok(Event::Rule {
+        place,
+        name: name.share(alloc)?,
+        answer: answer_of(alloc, answer)?,
+    })
+}
+
+/// The event that makes a weak handle.
+fn weak(alloc: Global, handle: &Name, context: &Name) -> Result<Event, AllocError>
+    ensures { IfOk result (λ event. event ≡ events.Weak handle.now context.now) }
+{
+    Ok(Event::Weak {
+        handle: handle.share(alloc)?,
+        name: context.share(alloc)?,
+    })
 }
 
 fn kind_of(fixed: bool) -> ContextKind
@@ -199,6 +224,15 @@ fn numbers_of(event: &Event) -> u32
         Event::Collect => MOST_CONTEXTS,
         _ => 0,
     }
+}
+
+/// Room for so many numbers, and for no text, twice.
+fn two_rooms(alloc: Global, numbers: u32) -> Result<(Room, Room), AllocError>
+    ensures room { IfOk result (λ rooms. rooms.0 ≡ room_with numbers) }
+    ensures copy { IfOk result (λ rooms. rooms.1 ≡ room_with numbers) }
+{
+    let room = room_with(alloc, numbers)?;
+    Ok((room, room_with(alloc, numbers)?))
 }
 
 /// Room for so many numbers, and for no text.

@@ -11,8 +11,6 @@ mod platform;
 mod replies;
 mod retold;
 mod tables;
-#[cfg(test)]
-mod tests;
 
 pub use bounds::{Bounds, Share};
 pub use host::HostCore;

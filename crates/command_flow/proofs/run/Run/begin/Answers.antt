@@ -1,11 +1,10 @@
-use Rattle.std.proofs.Common.{◌≡◌, ◌∙◌, List, [], length, subst, ap}
+use Rattle.std.proofs.Common.{◌≡◌, ◌∙◌, [], length, subst, ap}
 use Rattle.std.specs.Arc.{arc_value}
 use Rattle.std.specs.Vec.{vec_capacity}
 use Rattle.command_flow.specs.declared.run.At.{At}
 use Rattle.command_flow.specs.Flow.{Plan}
 use Rattle.command_flow.specs.State.{IsBetween, Running, StandsAt, steps_told}
 use Rattle.command_flow.proofs.StateLemmas.{between-fresh}
-use Rattle.command_flow.proofs.FlowLemmas.{can_go}
 use Rattle.command_flow.proofs.run.Run.begin.Goals as goal
 
 pub returns-clause-can : goal.returns-clause-can

@@ -1,6 +1,5 @@
-use Rattle.std.proofs.Common.{◌≡◌, ◌∙◌, List, length, All, Some, subst, ap, arith}
+use Rattle.std.proofs.Common.{◌≡◌, ◌∙◌, length, All, Some, subst, ap, arith}
 use Rattle.std.specs.List.{slice_get}
-use Rattle.assembly_image.specs.Reading.{FileReading}
 use Rattle.bind_flow.specs.State.{fresh as fresh_bind}
 use Rattle.command_flow.specs.Flow.{HasImage}
 use Rattle.command_flow.specs.State.{Running}

@@ -1,19 +1,15 @@
-use Rattle.std.proofs.Common.{◌≡◌, ◌++◌, ◌∷◌, ◌∙◌, [], ℕ, List, Option, Some, cond, length, refl, sym, subst, ap}
+use Rattle.std.proofs.Common.{◌≡◌, ◌++◌, ◌∷◌, ◌∙◌, [], ℕ, Option, Some, cond, length, refl, sym, subst, ap}
 use Rattle.std.specs.Arc.{arc_value}
 use Rattle.std.specs.Result.{is_ok}
 use Rattle.std.specs.Vec.{vec_capacity}
-use Rattle.std.proofs.lemmas.List.{map-append}
 use Rattle.host_events.specs.declared.order.Answer.{Answer}
 use Rattle.host_events.specs.Flows.{IsResumable}
-use Rattle.host_events.specs.Steps.{Step}
 use Rattle.bind_flow.specs.Flow.{CanCome}
 use Rattle.command_flow.specs.declared.run.At.{At}
 use Rattle.command_flow.specs.declared.run.At.TheVariants as places
 use Rattle.command_flow.specs.declared.run.Told.{Told}
-use Rattle.command_flow.specs.declared.turn.Turn.{Turn}
 use Rattle.command_flow.specs.Flow.{Plan}
-use Rattle.command_flow.specs.State.{CanGo, IsKeptUp, Running, stand_at, step_told, steps_told}
-use Rattle.command_flow.specs.Turns.{turn_with}
+use Rattle.command_flow.specs.State.{IsKeptUp, Running, stand_at, steps_told}
 use Rattle.command_flow.proofs.FlowLemmas.{IsKeptUp-taken, can_turn, come-now, told-now, waits-now}
 use Rattle.command_flow.proofs.run.Run.take.Goals as goal
 
