@@ -1,0 +1,10 @@
+mod Order
+mod Joins
+mod Ups
+mod Heights
+mod Assigned
+mod Members
+mod Chains
+mod Levels
+mod Suiting
+mod Finding
