@@ -53,7 +53,8 @@ use Rattle.command_flow.specs.Orders.{IsOrder, most_contexts, numbers_of, room_w
 use Rattle.command_flow.specs.Run.{runs_all}
 use Rattle.command_flow.proofs.Counts.{PassesNone, asks_for as command_asks, count_of, fewer_events, fewer_of}
 use Rattle.command_flow.proofs.Fits.{due_events_fit_each}
-use Rattle.command_flow.proofs.Inner.{inner_is, is_inner}
+use Rattle.command_flow.specs.State.{is_inner}
+use Rattle.command_flow.proofs.Inner.{inner_is}
 use Rattle.command_flow.proofs.Places.{IsAt, due_at, first_event, scope_of}
 use Rattle.alc_program.specs.Good.{commands_of}
 use Rattle.alc_program.specs.Images.{files_of}

@@ -1,18 +1,13 @@
 -- A script whose lines are all run begins no operation where it collects contexts.
-use Rattle.std.proofs.Common.{◌≡◌, ◌⊎◌, ◌∙◌, ℕ, zero, suc, ◌<◌, ◌≤◌, Bool, true, false, not, ◌&&◌, ◌||◌, cond, List, [], ◌∷◌, ◌++◌, length, map, Option, Some, None, Result, Ok, Err, refl, sym, ap, subst, inl, inr, arith, length-append}
-use Rattle.std.specs.List.{AllByRecursion, Contains, filter, filter_map, flat_map, list_any, slice_get}
+use Rattle.std.proofs.Common.{◌≡◌, ◌∙◌, ℕ, zero, suc, ◌≤◌, Bool, true, false, not, ◌&&◌, ◌||◌, cond, List, [], ◌∷◌, ◌++◌, map, Some, refl, sym, ap, subst, inl, inr, arith}
+use Rattle.std.specs.List.{AllByRecursion, Contains, filter, flat_map, list_any, slice_get}
 use Rattle.std.proofs.lemmas.Bool.{and_parts, cases_lt, le-leb, or_left, or_right}
 use Rattle.std.proofs.lemmas.List.Elements.{Contains-append_left, Contains-append_right}
-use Rattle.host_events.proofs.Parts.{PartsAt, any_parts, parts_any, parts_given}
-use Rattle.host_script.specs.declared.cause.LineCause.{LineCause}
+use Rattle.host_events.proofs.Parts.{PartsAt, any_parts, parts_any}
 use Rattle.host_script.specs.declared.command.Command.{Command}
 use Rattle.host_script.specs.declared.command.Command.TheVariants as commands
 use Rattle.host_script.specs.declared.command.CommandLine.{CommandLine}
-use Rattle.host_script.specs.declared.line_form.LineForm.{LineForm}
-use Rattle.host_script.specs.declared.line_form.LineForm.TheVariants as forms
 use Rattle.host_script.specs.declared.script.Script.{Script}
-use Rattle.host_script.specs.Lines.{lines}
-use Rattle.host_script.specs.Script.{Accepts, Numbered, block_in, blocks, numbered_from, until_thread}
 use Rattle.command_flow.specs.Events.{is_built}
 use Rattle.alc_program.specs.Unbuilt.{bars, bars_line, begins, collects, command_lines, is_collecting, is_run, unbuilt_lines}
 

@@ -34,7 +34,7 @@ use Rattle.host_events.proofs.Named.{named_are_made_each}
 use Rattle.host_events.proofs.Numbers.{number_of_live}
 use Rattle.host_events.proofs.Push.{IsProper-prefix}
 use Rattle.host_report.specs.Printable.{IsPrintableReply, ends_command}
-use Rattle.command_flow.proofs.Inner.{is_inner}
+use Rattle.command_flow.specs.State.{is_inner}
 use Rattle.command_flow.proofs.Places.{IsUnbegun}
 
 abbrev IsNumber : ℕ → Type 0

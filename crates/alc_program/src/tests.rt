@@ -1,10 +1,7 @@
-mod binds;
 mod devices;
-mod flows;
-mod inspect;
 mod limits;
 mod read_back;
 mod reports;
 mod samples;
 mod scripts;
-mod steps;
+mod threads;

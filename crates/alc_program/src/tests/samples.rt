@@ -1,43 +1,19 @@
-use super::devices::comes_to;
-use crate::status::Status;
 use image_maker::{Module, SampleName, make, sample};
 use std::alloc::{AllocError, Global};
 use std::test::Fail;
 
-const LIB1: &str = "inspect 1\nassembly \"Lib\" 1.0.0.0\nref \"System.Runtime\" 8.0.0.0\n\
-    type 1 \"<Module>\"\ntype 2 \"Lib.C\"\nmethod 1 \"Get\"\nend\n";
-
-const LIB2: &str = "inspect 1\nassembly \"Lib\" 2.0.0.0\nref \"System.Runtime\" 8.0.0.0\n\
-    type 1 \"<Module>\"\ntype 2 \"Lib.C\"\nmethod 1 \"Get\"\nend\n";
-
-const LIB19: &str = "inspect 1\nassembly \"Lib\" 1.9.9.9\nref \"System.Runtime\" 8.0.0.0\n\
-    type 1 \"<Module>\"\ntype 2 \"Lib.C\"\nmethod 1 \"Get\"\nend\n";
-
-const USE: &str = "inspect 1\nassembly \"Use\" 1.0.0.0\nref \"System.Runtime\" 8.0.0.0\n\
-    ref \"Lib\" 1.0.0.0\ntype 1 \"<Module>\"\ntype 2 \"Use.P\"\nmethod 1 \"Run\"\nend\n";
-
-const GEN: &str = "inspect 1\nassembly \"Gen\" 1.0.0.0\nref \"System.Runtime\" 8.0.0.0\n\
-    ref \"Lib\" 1.0.0.0\ntype 1 \"<Module>\"\ntype 2 \"Gen.Pair`2\"\nfield 1 \"n\"\n\
-    type 3 \"Gen.U\"\nmethod 1 \"Run\"\nend\n";
-
-const DEEP: &str = "inspect 1\nassembly \"Deep\" 1.0.0.0\nref \"System.Runtime\" 8.0.0.0\n\
-    type 1 \"<Module>\"\ntype 2 \"Deep.E\"\nmethod 1 \"M\"\nend\n";
-
-const OPS: &str = "inspect 1\nassembly \"Ops\" 1.0.0.0\nref \"System.Runtime\" 8.0.0.0\n\
-    ref \"System.Console\" 8.0.0.0\ntype 1 \"<Module>\"\ntype 2 \"Ops.M\"\nfield 1 \"n\"\n\
-    field 2 \"s\"\nmethod 1 \"Div\"\nmethod 2 \"AddOvf\"\nmethod 3 \"Shl\"\n\
-    method 4 \"Spin3\"\nmethod 5 \"Spin4\"\nmethod 6 \"Bad\"\nmethod 7 \"Loop\"\n\
-    method 8 \"Rec\"\nmethod 9 \"Arr\"\nmethod 10 \"Say\"\nmethod 11 \"Half\"\n\
-    method 12 \"Keep\"\nmethod 13 \"Put\"\nmethod 14 \"Peek\"\nend\n";
-
-const REL: &str = "inspect 1\nassembly \"Plugin\" 1.2.0.0\nref \"System.Runtime\" 8.0.0.0\n\
-    type 1 \"<Module>\"\ntype 2 \"Plugin.Entry\"\nmethod 1 \"Answer\"\nmethod 2 \"Half\"\nend\n";
-
-/// What `cksum` prints of `examples/lib.dll`, the first sample: its CRC, and how many bytes it has.
-const LIB_DLL: (u32, usize) = (1_965_012_546, 2_048);
-
-/// The same of `examples/lib2.dll`, the second sample.
-const LIB2_DLL: (u32, usize) = (3_681_931_452, 2_048);
+/// What `cksum` prints of the file of each sample, under `examples` or `.ci/samples`: its CRC, and how
+/// many bytes it has.
+const SAMPLES: [(SampleName, u32, usize); 8] = [
+    (SampleName::Lib1, 1_965_012_546, 2_048),
+    (SampleName::Lib2, 3_681_931_452, 2_048),
+    (SampleName::Lib19, 3_005_337_062, 2_048),
+    (SampleName::Use, 710_100_657, 2_560),
+    (SampleName::Gen, 3_690_787_806, 2_560),
+    (SampleName::Deep, 4_054_864_840, 2_048),
+    (SampleName::Ops, 2_368_953_606, 3_072),
+    (SampleName::Rel, 3_630_008_168, 2_560),
+];
 
 // The CRC of `cksum` after one byte more.
 fn crc_after(crc: u32, byte: u8) -> u32 {
@@ -85,32 +61,10 @@ pub(super) fn sample_image(
 }
 
 #[test]
-fn inspects_samples(rt: HostRuntime) -> Result<(), Fail> {
-    for (which, text) in [
-        (SampleName::Lib1, LIB1),
-        (SampleName::Lib2, LIB2),
-        (SampleName::Lib19, LIB19),
-        (SampleName::Use, USE),
-        (SampleName::Gen, GEN),
-        (SampleName::Deep, DEEP),
-        (SampleName::Ops, OPS),
-        (SampleName::Rel, REL),
-    ] {
+fn the_files_are_samples(rt: HostRuntime) -> Result<(), Fail> {
+    for (which, crc, len) in SAMPLES {
         let image = sample_image(rt.alloc(), which)?.ok_or("no image")?;
-        let held = Some(image.as_slice());
-        assert!(rt;
-            comes_to(rt.alloc(), "inspect F", held, Status::Done, text)?,
-            "{text}"
-        );
-    }
-    Ok(())
-}
-
-#[test]
-fn the_examples_are_samples(rt: HostRuntime) -> Result<(), Fail> {
-    for (which, told) in [(SampleName::Lib1, LIB_DLL), (SampleName::Lib2, LIB2_DLL)] {
-        let image = sample_image(rt.alloc(), which)?.ok_or("no image")?;
-        assert!(rt; (crc_of(&image), image.len()) == told);
+        assert!(rt; (crc_of(&image), image.len()) == (crc, len), "{crc}");
     }
     Ok(())
 }
