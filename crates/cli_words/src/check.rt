@@ -1,5 +1,5 @@
 //! Checks of images.
-ghost use Rattle.std.specs.Prelude.{◌≡◌, ◌^◌, ◌<◌};
+ghost use Rattle.std.specs.Prelude.{◌≡◌, ◌^◌, ◌<◌, Some};
 ghost use Rattle.cli_words.specs.Check.{name_of};
 
 use std::fmt;
@@ -76,6 +76,8 @@ impl CheckCode {
 }
 
 impl fmt::Display for CheckCode {
+    ghost output = { λ code. Some (name_of code) };
+
     fn fmt<W: fmt::Write>(&self, f: &mut fmt::Formatter<W>) -> fmt::Result {
         f.write_str(self.name())
     }
