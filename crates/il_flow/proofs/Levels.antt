@@ -3,11 +3,21 @@ use Rattle.std.proofs.Common.{◌≡◌, ◌⊎◌, ◌↔◌, inl, inr, ℕ, ze
 use Rattle.std.proofs.lemmas.List.{take_more, take_all}
 use Rattle.std.proofs.lemmas.Option.{slice_get_within, get_or_from_slice_get}
 use Rattle.std.proofs.lemmas.List.Elements.{Contains-append_left, Contains-append_right, Contains-append_cases}
-use Rattle.il_flow.specs.Families.{Family, IsFamily, Names, Leads, IsLed}
+use Rattle.std.proofs.Common.{◌==◌, cond}
+use Rattle.std.proofs.lemmas.Bool.Decides.{eqb_tells}
+use Rattle.il_flow.specs.Families.{Family, IsFamily, Names, Leads, IsLed, interface_of}
 use Rattle.il_flow.specs.Assigning.{AreJust}
 use Rattle.il_flow.proofs.Order.{Key}
 use Rattle.il_flow.proofs.Members.{cons-cases, cons-first, none-in}
 use Rattle.il_flow.proofs.Assigned.{leads-more}
+
+-- past 0 the interface with a number is the one at its place
+pub counted-interface : (family : Family) (key : Key) (n : ℕ) → 0 < n →
+    interface_of family key n ≡ slice_get (family.interfaces key) (n - 1)
+counted-interface family key n counted = elim (eqb_tells n 0) [
+  | inl e ↦ absurd (omega (arith, e.1, counted))
+  | inr e ↦ ap (λ b. cond b None (slice_get (family.interfaces key) (n - 1))) e.0
+]
 
 -- one more at the end
 pub end-cases : (xs : List Key) (x k : Key) → Contains (xs ++ x ∷ []) k → Contains xs k ⊎ (x ≡ k)

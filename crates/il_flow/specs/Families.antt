@@ -1,6 +1,6 @@
--- What stands above a reference type (own; after ECMA-335 II.10.1, II.10.2).
+-- What stands above a reference type (own; after ECMA-335 II.10.1).
 use Rattle.std.specs.Prelude.{◌≡◌, ◌⊎◌, ℕ, zero, suc, ◌-◌, ◌<◌, ◌^◌, if◌then◌else◌, List, [], ◌∷◌, length, Contains}
-use Rattle.std.specs.Prelude.{Option, Some, None, unwrap_or}
+use Rattle.std.specs.Prelude.{Option, Some, None, unwrap_or, slice_get, ◌==◌}
 use Rattle.signatures.specs.declared.sig.Primitive.TheVariants as prim
 use Rattle.signatures.specs.declared.key.KeyPart.{KeyPart}
 use Rattle.signatures.specs.declared.key.KeyPart.TheVariants.{Prim, Vector}
@@ -24,6 +24,10 @@ parent_of family key = family.parent key
 abbrev pub interfaces_of : Family → List KeyPart → List (List KeyPart)
 interfaces_of family (Vector ∷ element) = []
 interfaces_of family key = family.interfaces key
+
+-- the interface of a type with a number: they are counted from 1, so none has the number 0
+abbrev pub interface_of : Family → List KeyPart → ℕ → Option (List KeyPart)
+interface_of family key n = if n == 0 then None else slice_get (family.interfaces key) (n - 1)
 
 -- the class right above a reference type. System.Object stands above every type without a parent:
 -- arrays, interfaces, and classes that extend nothing. Nothing stands above it

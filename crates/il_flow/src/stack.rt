@@ -1,5 +1,5 @@
 //! The types of values on the stack, and what stands above them.
-ghost use Rattle.std.specs.Prelude.{◌≡◌, ◌-◌, ◌<◌, ◌^◌, slice_get, IfOk};
+ghost use Rattle.std.specs.Prelude.{◌≡◌, IfOk};
 ghost use Rattle.il_flow.specs.StackTypes.{number_of, number_of_key, is_reference, stack_of};
 
 use signatures::{KeyPart, Prim, TypeKey};
@@ -68,7 +68,7 @@ fn number_of(prim: Prim) -> Option<StackType>
 
 /// What stands right above the types that keys name.
 pub trait Parents {
-    ghost use Rattle.il_flow.specs.Families.{Family, IsFamily};
+    ghost use Rattle.il_flow.specs.Families.{Family, IsFamily, interface_of};
 
     /// The parent and the interfaces of each key.
     ghost family: { Self → Family };
@@ -80,8 +80,7 @@ pub trait Parents {
     /// The `n`-th interface of a type in the order of the rows, from 1; `None` exactly where there
     /// is none.
     fn interface(&self, alloc: Global, key: &TypeKey, n: u32) -> Result<Option<TypeKey>, AllocError>
-        ensures { IfOk result (λ found. 0 < n →
-            found ≡ slice_get ((family self.now).interfaces key.now) (n - 1)) };
+        ensures { IfOk result (λ found. found ≡ interface_of (family self.now) key.now n) };
 
     /// No chain of parents and interfaces is longer than 64, and no parent is an array.
     ghost lawful: { (parents : Self) → IsFamily (family parents) };
