@@ -34,7 +34,9 @@ use Rattle.host_events.proofs.Told.{own_steps-agree}
 use Rattle.host_events.proofs.Within.{own_entries_tell_within_each}
 use Rattle.host_core.specs.declared.bounds.Bounds.{Bounds}
 use Rattle.host_core.specs.declared.bounds.Share.{Share}
-use Rattle.host_core.specs.Accepted.{Brings, HasRoom, IsAccepted, MayMake, numbers_due}
+use Rattle.host_core.specs.Accepted.{Brings, HasRoom, IsAccepted, MayMake}
+use Rattle.host_core.proofs.Keeps.{numbers_due-le}
+use Rattle.host_events.specs.Rooms.{most_contexts, numbers_due, room_for}
 use Rattle.host_core.specs.Allowed.{Fixed, IsAllowed, keeps_to, makes_context_by, makes_handle, makes_handle_by, sets_rule, sets_rule_by, used, used_contexts, used_handles, used_rules}
 use Rattle.host_core.specs.Bounds.{part_of}
 use Rattle.host_core.specs.Core.{fixed_by}
@@ -49,7 +51,7 @@ use Rattle.host_script.specs.Worded.{AreWorded, IsWorded, IsWordedAnswer}
 use Rattle.host_threads.specs.Drive.{CanDrive, Suits}
 use Rattle.command_flow.specs.Events.{answer_of, event_of}
 use Rattle.command_flow.specs.Flow.{IsAsked, IsLeave, most_events}
-use Rattle.command_flow.specs.Orders.{IsOrder, most_contexts, numbers_of, room_with}
+use Rattle.command_flow.specs.Orders.{IsOrder}
 use Rattle.command_flow.specs.Run.{runs_all}
 use Rattle.command_flow.proofs.Counts.{PassesNone, asks_for as command_asks, count_of, fewer_events, fewer_of}
 use Rattle.command_flow.proofs.Fits.{due_events_fit_each}
@@ -87,25 +89,6 @@ may_each bounds journal thread (events.Alive handle) contexts handles rules = tt
 may_each bounds journal thread (events.Unload name) contexts handles rules = tt
 may_each bounds journal thread events.Collect contexts handles rules = tt
 may_each bounds journal thread (events.Leave operation) contexts handles rules = tt
-
-numbers-le : (contexts : ℕ) (event : Event) → contexts ≤ most_contexts → numbers_due contexts event ≤ numbers_of event
-numbers-le contexts (events.New name kind) few = omega arith
-numbers-le contexts (events.Rule place name answer) few = omega arith
-numbers-le contexts (events.Enter name) few = omega arith
-numbers-le contexts (events.EnterHandle handle) few = omega arith
-numbers-le contexts (events.Lookup context name version) few = omega arith
-numbers-le contexts (events.Ask step context name) few = omega arith
-numbers-le contexts (events.Publish context name candidate) few = omega arith
-numbers-le contexts (events.Place user key) few = omega arith
-numbers-le contexts (events.LoadStatic key field kind) few = omega arith
-numbers-le contexts (events.StoreStatic key field value) few = omega arith
-numbers-le contexts (events.Hold handle assembly method) few = omega arith
-numbers-le contexts (events.DropHandle handle) few = omega arith
-numbers-le contexts (events.Weak handle name) few = omega arith
-numbers-le contexts (events.Alive handle) few = omega arith
-numbers-le contexts (events.Unload name) few = omega arith
-numbers-le contexts events.Collect few = few
-numbers-le contexts (events.Leave operation) few = omega arith
 
 -- the image of a rule of a script is one of its images
 answer_image : (count : ℕ) (answer : ScriptAnswer) (i : ℕ) → IsWordedAnswer count answer → image_answered (answer_of answer) ≡ Some i → (1 ≤ i) × (i ≤ count)
@@ -292,10 +275,10 @@ module _ (fixed : Fixed) (images : List FileReading) (thread : ℕ) (lines : Lis
   length-own : length (own_entries journal thread) ≡ length trace
   length-own = ap length own ∙ length-steps
 
-  has_room : (event : Event) (room : Room) → room ≡ room_with (numbers_of event) → HasRoom fixed.bounds.contexts event room
+  has_room : (event : Event) (room : Room) → room ≡ room_for (numbers_due most_contexts event) → HasRoom fixed.bounds.contexts event room
   has_room event room is =
       subst (λ (r : Room). HasRoom fixed.bounds.contexts event r) (sym is)
-      ((refl, refl, refl, refl), numbers-le fixed.bounds.contexts event suits.allowed.numbered)
+      ((refl, refl, refl, refl), numbers_due-le fixed.bounds.contexts most_contexts event suits.allowed.numbered)
 
   -- an order is accepted that fits, makes what there is room for, and keeps to the run
   takes : (order : Order ImageCode) → IsOrder images order → Fits journal thread order.event → length trace < sum_by most_events (commands_of lines) →

@@ -16,7 +16,8 @@ use Rattle.host_core.specs.declared.bounds.Bounds.{Bounds}
 use Rattle.host_core.specs.declared.bounds.Share.{Share}
 use Rattle.host_core.specs.Accepted.{IsAccepted}
 use Rattle.host_core.specs.Allowed.{Fixed, IsAllowed, makes_context_by, makes_handle_by, sets_rule_by}
-use Rattle.host_core.specs.Bounds.{CanSum, bounds_of, most_contexts, part_of}
+use Rattle.host_core.specs.Bounds.{CanSum, bounds_of, part_of}
+use Rattle.host_events.specs.Rooms.{most_contexts}
 use Rattle.host_core.specs.Core.{fixed_by}
 use Rattle.host_events.specs.declared.event.Event.{Event}
 use Rattle.host_events.specs.declared.journal.Entry.{Entry}

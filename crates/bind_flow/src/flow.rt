@@ -181,7 +181,7 @@ impl Flow for BindFlow {
     ghost use Rattle.host_events.specs.Flows.{IsResumable, trace_after, stand_after, Gives};
     ghost use Rattle.bind_flow.specs.declared.images.ImageCode.{ImageCode};
     ghost use Rattle.bind_flow.specs.Flow.{CanCome, IsAsked, IsEnd, Plan};
-    ghost use Rattle.bind_flow.specs.State.{due_of, stand_of};
+    ghost use Rattle.bind_flow.specs.State.{due_of, due_with, stand_of};
 
     type Order = Order<ImageCode>;
 
@@ -204,6 +204,8 @@ impl Flow for BindFlow {
     ghost Leaves = { λ plan trace order. ⊥ };
 
     ghost stand = { stand_of };
+
+    ghost due_of = { λ plan trace stand. due_with trace stand };
 
     fn resume(&mut self, alloc: Global, last: Option<Answer>) -> Next<Order<ImageCode>, Outcome>
         requires { IsResumable (CanCome self.old.plan.images self.old.trace) (λ (a : Answer). a.reply)

@@ -35,7 +35,8 @@ use Rattle.command_flow.specs.declared.turn.Turn.TheVariants as turns
 use Rattle.command_flow.specs.declared.turn.Wait.{Wait}
 use Rattle.command_flow.specs.declared.turn.Wait.TheVariants as waits
 use Rattle.command_flow.specs.Flow.{IsAsked, IsEnd, Plan, Progress, due_own, due_with, is_bind, most_events}
-use Rattle.command_flow.specs.Orders.{IsOrder, room_with}
+use Rattle.command_flow.specs.Orders.{IsOrder}
+use Rattle.host_events.specs.Rooms.{room_for}
 use Rattle.command_flow.specs.Run.{most_within, loads, runs, runs_all, within_limit}
 use Rattle.command_flow.specs.State.{CanGo, CanResume, CanWait, IsBetween, IsBinding, IsInside, IsKeptUp, IsLeaving, IsLeft, IsLoading, IsStarting, Running, StandsAt, bound_trace, ends_later, goes_on, leaves, stand_at, step_told, steps_told, works}
 use Rattle.command_flow.specs.Turns.{CanTurn, first_event, opened, order_for, turn_with}
@@ -239,8 +240,8 @@ asked-bind plan trace ends k count flow order binding asked = record {
   brings = record {
     same = asked.brings.same;
     coded = subst (λ (is : List FileReading). BringsCode is order.event order.code) binding.images asked.brings.coded;
-    room = asked.brings.room ∙ ap room_with (sym (inner-no_numbers order.event binding.inner));
-    copy = asked.brings.copy ∙ ap room_with (sym (inner-no_numbers order.event binding.inner));
+    room = asked.brings.room ∙ ap room_for (sym (inner-no_numbers order.event binding.inner));
+    copy = asked.brings.copy ∙ ap room_for (sym (inner-no_numbers order.event binding.inner));
   };
 }
 

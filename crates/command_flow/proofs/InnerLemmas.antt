@@ -13,7 +13,7 @@ use Rattle.host_events.proofs.Quiet.{begins}
 use Rattle.bind_flow.specs.Binds.{Wanted, binds}
 use Rattle.bind_flow.specs.Images.{World}
 use Rattle.command_flow.specs.Flow.{is_last_by}
-use Rattle.command_flow.specs.Orders.{numbers_of}
+use Rattle.host_events.specs.Rooms.{most_contexts, numbers_due}
 use Rattle.command_flow.specs.State.{is_inner}
 use Rattle.command_flow.proofs.Inner.{bind_scope, inner_is, works-binds}
 use Rattle.command_flow.proofs.Ways.{Fact}
@@ -37,7 +37,7 @@ inner-no_end (events.Ask step context name) k inner = refl
 inner-no_end (events.Publish context name candidate) k inner = refl
 inner-no_end event k inner = cc
 
-pub inner-no_numbers : (event : Event) → is_inner event ≡ true → numbers_of event ≡ 0
+pub inner-no_numbers : (event : Event) → is_inner event ≡ true → numbers_due most_contexts event ≡ 0
 inner-no_numbers (events.Lookup context name version) inner = refl
 inner-no_numbers (events.Ask step context name) inner = refl
 inner-no_numbers (events.Publish context name candidate) inner = refl

@@ -26,7 +26,8 @@ use Rattle.command_flow.specs.declared.turn.Turn.TheVariants as turns
 use Rattle.command_flow.specs.declared.turn.Wait.{Wait}
 use Rattle.command_flow.specs.declared.turn.Wait.TheVariants as waits
 use Rattle.command_flow.specs.Events.{event_of}
-use Rattle.command_flow.specs.Orders.{IsOrder, numbers_of, room_with}
+use Rattle.command_flow.specs.Orders.{IsOrder}
+use Rattle.host_events.specs.Rooms.{most_contexts, numbers_due, room_for}
 use Rattle.command_flow.specs.Run.{loads}
 
 -- the first event of a command: its one event, or that by which its operation begins
@@ -53,8 +54,8 @@ order_for event = record {
   event = event;
   again = event;
   code = None;
-  room = room_with (numbers_of event);
-  copy = room_with (numbers_of event);
+  room = room_for (numbers_due most_contexts event);
+  copy = room_for (numbers_due most_contexts event);
 }
 
 -- the publication of an image under its own name

@@ -59,7 +59,7 @@ impl Flow for ThreadFlow {
     ghost use Rattle.host_events.specs.Flows.{IsResumable, trace_after, stand_after, Gives};
     ghost use Rattle.bind_flow.specs.declared.images.ImageCode.{ImageCode};
     ghost use Rattle.bind_flow.specs.Flow.{CanCome};
-    ghost use Rattle.command_flow.specs.Flow.{IsAsked, IsEnd, IsLeave, Plan, due_of};
+    ghost use Rattle.command_flow.specs.Flow.{IsAsked, IsEnd, IsLeave, Plan, due_of, due_with};
 
     type Order = Order<ImageCode>;
 
@@ -82,6 +82,8 @@ impl Flow for ThreadFlow {
     ghost Leaves = { IsLeave };
 
     ghost stand = { λ flow. flow.stand };
+
+    ghost due_of = { λ plan trace stand. due_with plan.commands trace stand };
 
     fn resume(&mut self, alloc: Global, last: Option<Answer>) -> Next<Order<ImageCode>, End>
         requires { IsResumable (CanCome self.old.plan.images self.old.trace) (λ (a : Answer). a.reply)

@@ -6,7 +6,7 @@ ghost use Rattle.assembly_image.specs.Reading.{module_of};
 ghost use Rattle.host_events.specs.declared.event.Event.TheVariants as events;
 ghost use Rattle.bind_flow.specs.Images.{reading_at};
 ghost use Rattle.command_flow.specs.Events.{answer_of, is_built, kind_of};
-ghost use Rattle.command_flow.specs.Orders.{numbers_of, room_with};
+ghost use Rattle.host_events.specs.Rooms.{most_contexts, numbers_due, room_for};
 ghost use Rattle.command_flow.specs.Turns.{IsLoad, first_event, order_for, publication, refused};
 
 use assembly_image::AssemblyImage;
@@ -218,7 +218,7 @@ fn answer_of(alloc: Global, answer: &ScriptAnswer) -> Result<RuleAnswer, AllocEr
 
 /// How many numbers the reply to the event may list.
 fn numbers_of(event: &Event) -> u32
-    ensures { result ≡ numbers_of event.now }
+    ensures { result ≡ numbers_due most_contexts event.now }
 {
     match event {
         Event::Collect => MOST_CONTEXTS,
@@ -228,16 +228,16 @@ fn numbers_of(event: &Event) -> u32
 
 /// Room for so many numbers, and for no text, twice.
 fn two_rooms(alloc: Global, numbers: u32) -> Result<(Room, Room), AllocError>
-    ensures room { IfOk result (λ rooms. rooms.0 ≡ room_with numbers) }
-    ensures copy { IfOk result (λ rooms. rooms.1 ≡ room_with numbers) }
+    ensures room { IfOk result (λ rooms. rooms.0 ≡ room_for numbers) }
+    ensures copy { IfOk result (λ rooms. rooms.1 ≡ room_for numbers) }
 {
-    let room = room_with(alloc, numbers)?;
-    Ok((room, room_with(alloc, numbers)?))
+    let room = room_for(alloc, numbers)?;
+    Ok((room, room_for(alloc, numbers)?))
 }
 
 /// Room for so many numbers, and for no text.
-fn room_with(alloc: Global, numbers: u32) -> Result<Room, AllocError>
-    ensures { IfOk result (λ room. room ≡ room_with numbers) }
+fn room_for(alloc: Global, numbers: u32) -> Result<Room, AllocError>
+    ensures { IfOk result (λ room. room ≡ room_for numbers) }
 {
     Ok(Room {
         numbers: Numbers::new(alloc, numbers)?,
@@ -249,7 +249,7 @@ fn room_with(alloc: Global, numbers: u32) -> Result<Room, AllocError>
 
 /// No room for a list or a text.
 fn no_room(alloc: Global) -> Room
-    ensures { result ≡ room_with 0 }
+    ensures { result ≡ room_for 0 }
 {
     Room {
         numbers: Numbers::of(Vec::new(alloc)),

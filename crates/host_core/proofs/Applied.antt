@@ -11,7 +11,8 @@ use Rattle.host_events.specs.Contexts.{freed_contexts, made_count}
 use Rattle.host_events.specs.Reply.{IsReply}
 use Rattle.host_events.specs.Steps.{entry_of}
 use Rattle.host_core.specs.declared.tables.Tables.{Tables}
-use Rattle.host_core.specs.Accepted.{IsAccepted, numbers_due}
+use Rattle.host_core.specs.Accepted.{IsAccepted}
+use Rattle.host_events.specs.Rooms.{numbers_due}
 use Rattle.host_core.specs.After.{CanFollow, HaveFollowed}
 use Rattle.host_core.specs.Allowed.{Fixed, IsAllowed}
 use Rattle.host_core.specs.Core.{Core, IsKeptUp}

@@ -27,7 +27,8 @@ use Rattle.host_events.proofs.Cases.{alive-each, ask-each, enter-each, lookup-ea
 use Rattle.host_events.proofs.Push.{IsProper-push}
 use Rattle.host_core.specs.declared.bounds.Bounds.{Bounds}
 use Rattle.host_core.specs.declared.bounds.Share.{Share}
-use Rattle.host_core.specs.Accepted.{Brings, BringsCode, HasRoom, IsAccepted, MayMake, numbers_due}
+use Rattle.host_core.specs.Accepted.{Brings, BringsCode, HasRoom, IsAccepted, MayMake}
+use Rattle.host_events.specs.Rooms.{numbers_due}
 use Rattle.host_core.specs.Allowed.{Fixed, IsAllowed, keeps_to, makes_context_by, makes_handle, makes_handle_by, sets_rule, sets_rule_by, used, used_events, used_contexts, used_handles, used_rules}
 use Rattle.host_core.specs.Bounds.{part_of}
 use Rattle.host_core.specs.Core.{Core}

@@ -10,43 +10,14 @@ use Rattle.host_events.specs.declared.order.Room.{Room}
 use Rattle.host_events.specs.Files.{Files, IsImage, version_of}
 use Rattle.host_events.specs.Images.{image_ruled}
 use Rattle.host_events.specs.Journal.{Fits}
-use Rattle.host_events.specs.Reserved.{sealed}
+use Rattle.host_events.specs.Rooms.{numbers_due}
 use Rattle.host_core.specs.declared.bounds.Bounds.{Bounds}
 use Rattle.host_core.specs.Allowed.{Fixed, keeps_to, used_events, used_contexts, used_handles, used_rules}
 use Rattle.host_core.specs.Bounds.{part_of}
 
--- empty lists and texts, with room for this many numbers and no more
-abbrev pub room_for : ℕ → Room
-room_for count = record {
-  numbers = record { list = []; spare = count };
-  first = sealed [];
-  second = sealed [];
-  third = sealed [];
-}
-
 abbrev pub IsEmptyRoom : Room → Type 0
 IsEmptyRoom room =
     (room.numbers.list ≡ []) × (room.first.list ≡ []) × (room.second.list ≡ []) × (room.third.list ≡ [])
-
--- how many numbers the reply may list, where there are at most so many contexts
-abbrev pub numbers_due : ℕ → Event → ℕ
-numbers_due contexts (events.New name kind) = 0
-numbers_due contexts (events.Rule place name answer) = 0
-numbers_due contexts (events.Enter name) = 0
-numbers_due contexts (events.EnterHandle handle) = 0
-numbers_due contexts (events.Lookup context name version) = 0
-numbers_due contexts (events.Ask step context name) = 0
-numbers_due contexts (events.Publish context name candidate) = 0
-numbers_due contexts (events.Place user key) = 0
-numbers_due contexts (events.LoadStatic key field kind) = 0
-numbers_due contexts (events.StoreStatic key field value) = 0
-numbers_due contexts (events.Hold handle assembly method) = 0
-numbers_due contexts (events.DropHandle handle) = 0
-numbers_due contexts (events.Weak handle name) = 0
-numbers_due contexts (events.Alive handle) = 0
-numbers_due contexts (events.Unload name) = 0
-numbers_due contexts events.Collect = contexts
-numbers_due contexts (events.Leave operation) = 0
 
 -- The lists and texts are empty, and there is room for the numbers that the reply may list.
 abbrev pub HasRoom : ℕ → Event → Room → Type 0

@@ -11,7 +11,8 @@ use Rattle.host_events.specs.Files.{Files}
 use Rattle.host_events.specs.Images.{KnowsImages}
 use Rattle.host_events.specs.Journal.{IsProper}
 use Rattle.host_core.specs.declared.bounds.Bounds.{Bounds}
-use Rattle.host_core.specs.Bounds.{bounds_of, most_contexts, part_of}
+use Rattle.host_core.specs.Bounds.{bounds_of, part_of}
+use Rattle.host_events.specs.Rooms.{most_contexts}
 
 -- what a run of the host never changes
 pub record Fixed : Type 0 where

@@ -25,10 +25,6 @@ pub record CanSum (shares : List Share) : Type 0 where
   pub handles : sum_by (λ share. share.handles) shares < 2 ^ 32
   pub rules : sum_by (λ share. share.rules) shares < 2 ^ 32
 
--- the most contexts for which a host is opened, with the one of `default`
-abbrev pub most_contexts : ℕ
-most_contexts = 1088
-
 -- the share of a thread, which is counted from 1
 abbrev pub share_of : List Share → ℕ → Option Share
 share_of shares zero = None

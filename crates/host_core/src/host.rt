@@ -39,7 +39,8 @@ impl<C: Code> HostCore<C> {
     ghost use Rattle.host_events.specs.Steps.{entry_of};
     ghost use Rattle.host_core.specs.Accepted.{IsAccepted};
     ghost use Rattle.host_core.specs.Allowed.{IsAllowed};
-    ghost use Rattle.host_core.specs.Bounds.{bounds_of, most_contexts};
+    ghost use Rattle.host_core.specs.Bounds.{bounds_of};
+    ghost use Rattle.host_events.specs.Rooms.{most_contexts};
     ghost use Rattle.host_core.specs.Core.{fixed_by};
 
     /// A host before its first event, with these image files. It collects contexts, or lets

@@ -16,7 +16,7 @@ impl<C: Code> HostCore<C> {
     ghost use Rattle.host_events.specs.Reply.{reply_to_lookup, reply_to_new, reply_to_publish};
     ghost use Rattle.host_events.specs.Reply.{reply_to_rule, reply_to_rule_in, reply_to_unload};
     ghost use Rattle.host_events.specs.Reserved.{sealed};
-    ghost use Rattle.host_core.specs.Accepted.{numbers_due};
+    ghost use Rattle.host_events.specs.Rooms.{numbers_due};
     ghost use Rattle.host_core.specs.Allowed.{keeps_to};
     ghost use Rattle.host_core.specs.Tables.{IsNotGone};
 

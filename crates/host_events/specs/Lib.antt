@@ -12,6 +12,7 @@ pub mod Operations
 pub mod Reachable
 pub mod Reply
 pub mod Reserved
+pub mod Rooms
 pub mod Rules
 pub mod Steps
 pub mod Task

@@ -1,5 +1,6 @@
 //! What asks for one event after another.
 ghost use Rattle.std.specs.Prelude.{ℕ, ◌≡◌, List, [], Option, None, Some};
+ghost use Rattle.host_events.specs.declared.flow.Due.{Due};
 ghost use Rattle.host_events.specs.declared.order.CodeOf.{CodeOf};
 ghost use Rattle.host_events.specs.declared.reply.Reply.{Reply};
 ghost use Rattle.host_events.specs.Flows.{Stand, IsResumable, trace_after, stand_after, Gives, Owes};
@@ -60,6 +61,9 @@ pub trait Flow {
 
     ghost stand: { Self → Stand Self.Order };
 
+    /// What the event is that a flow with such a trace and stand asked for last.
+    ghost due_of: { Plan → List Step → Stand Self.Order → Due };
+
     /// Goes on to the next event or to the end: at first with no answer, later with one to what was
     /// asked last. After an end it isn't resumed, nor after it lacked memory.
     fn resume(&mut self, alloc: Global, last: Option<Self::Answer>) -> Next<Self::Order, Self::End>
@@ -78,5 +82,6 @@ pub trait Flow {
         ensures { Owes Self.Order.event (Leaves (plan self.now) (trace self.now)) (trace self.now) result };
 
     /// What the event is that was asked for last.
-    fn due(&self) -> Due;
+    fn due(&self) -> Due
+        ensures { result ≡ due_of (plan self.now) (trace self.now) (stand self.now) };
 }

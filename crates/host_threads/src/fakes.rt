@@ -177,6 +177,7 @@ fn number_of(reply: &Reply) -> u32
 impl Flow for Counting {
     ghost use Rattle.std.specs.Prelude.{ℕ, Bool, List, Option, None, ◌≡◌, ◌≤◌, ◌<◌, length};
     ghost use Rattle.host_events.specs.declared.event.Event.TheVariants as events;
+    ghost use Rattle.host_events.specs.declared.flow.Due.TheVariants as dues;
     ghost use Rattle.host_events.specs.Flows.{Stand, IsResumable, trace_after, stand_after, Gives};
     ghost use Rattle.host_threads.specs.declared.fakes.At.TheVariants as places;
     ghost use Rattle.host_threads.specs.declared.fakes.Asked.{Asked};
@@ -210,6 +211,8 @@ impl Flow for Counting {
       | places.Ended ↦ Stand.Ended
       | places.Failed ↦ Stand.WithoutMemory
     ] };
+
+    ghost due_of = { λ plan trace stand. dues.Plain };
 
     fn resume(&mut self, _alloc: Global, last: Option<Answer>) -> Next<Asked, usize>
         requires { IsResumable
