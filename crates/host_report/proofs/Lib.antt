@@ -10,11 +10,13 @@ pub mod KeywordLemmas
 pub mod LineLemmas
 pub mod LineParts
 pub mod LineReadingLemmas
+pub mod OutcomePartsLemmas
 pub mod OutcomeReadingLemmas
 pub mod PlainTexts
 pub mod QuoteLemmas
 pub mod ReadingLemmas
 pub mod RefusalLemmas
+pub mod ReplyPartsLemmas
 pub mod ReplyReadingLemmas
 pub mod ReportLemmas
 pub mod SoundStages

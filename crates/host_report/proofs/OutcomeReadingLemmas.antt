@@ -26,7 +26,7 @@ use Rattle.host_report.specs.FieldReading.{word_read, is_numeral, number_read, v
 use Rattle.host_report.specs.Fields.{AreFields, front_text, spaced, version_text, token_text}
 use Rattle.host_report.specs.Keyword.{keyword_read}
 use Rattle.host_report.specs.LineReading.{named_line, counted_line, told_read}
-use Rattle.host_report.specs.OutcomeReading.{plain_outcomes, plain_outcome, of_number, of_text, bad_member_read, given_read, version_low_read, check_named, bad_image_read, feature_named, unsupported_read, rule_named, verify_fault_read, replied_read, or_else, named_outcome, outcome_read}
+use Rattle.host_report.specs.OutcomeReading.{plain_outcomes, plain_outcome, of_number, of_text, bad_member_read, given_read, version_low_read, check_named, bad_image_read, feature_named, unsupported_read, rule_named, verify_fault_read, replied_read, or_else, one_text, assembly_outcome, named_outcome, outcome_read}
 use Rattle.host_report.specs.Printable.{ends_command, IsPrintableReply, IsPrintableOutcome}
 use Rattle.host_report.specs.Quote.{quoted}
 use Rattle.host_report.specs.Reading.{IsTail, then_read}
@@ -409,26 +409,11 @@ unfolding outcome_read
 outcome_at text name rest word read is =
     ap (λ read. then_read read (named_outcome text)) read ∙ ap (λ (name : List ℕ). named_outcome text name rest) is
 
--- any other word
+-- any word that does not come first in these tables
 pub outcome_other : (text name rest : List ℕ) → keyword_read text ≡ Some (name, rest) →
-    name ≢ codes "Value" →
-    name ≢ codes "VersionLow" →
-    name ≢ codes "BadImage" →
-    name ≢ codes "Unsupported" →
-    name ≢ codes "VerifyFault" →
-    name ≢ codes "BadMember" →
-    name ≢ codes "Assembly" →
-    name ≢ codes "NotCollectible" →
-    name ≢ codes "NotFound" →
-    name ≢ codes "NameMismatch" →
-    name ≢ codes "NoType" →
-    name ≢ codes "NoMethod" →
-    name ≢ codes "NoField" →
-    name ≢ codes "Ambiguous" →
-    name ≢ codes "Threw" →
-    AllByRecursion (λ (row : List ℕ × Outcome). name ≢ row.0) plain_outcomes →
-    outcome_read text ≡ replied_read text
-outcome_other text name rest read n0 n1 n2 n3 n4 n5 n6 n7 n8 n9 n10 n11 n12 n13 n14 plain =
+    name ≢ codes "Value" → name ≢ codes "VersionLow" → name ≢ codes "BadImage" → name ≢ codes "Unsupported" → name ≢ codes "VerifyFault" →
+    outcome_read text ≡ assembly_outcome text name rest
+outcome_other text name rest read n0 n1 n2 n3 n4 =
     outcome_at text name rest name read refl
     ∙ rw (
       not_word name (codes "Value") n0,
@@ -436,15 +421,32 @@ outcome_other text name rest read n0 n1 n2 n3 n4 n5 n6 n7 n8 n9 n10 n11 n12 n13 
       not_word name (codes "BadImage") n2,
       not_word name (codes "Unsupported") n3,
       not_word name (codes "VerifyFault") n4,
-      not_word name (codes "BadMember") n5,
-      not_word name (codes "Assembly") n6,
-      not_word name (codes "NotCollectible") n7,
-      not_word name (codes "NotFound") n8,
-      not_word name (codes "NameMismatch") n9,
-      not_word name (codes "NoType") n10,
-      not_word name (codes "NoMethod") n11,
-      not_word name (codes "NoField") n12,
-      not_word name (codes "Ambiguous") n13,
-      not_word name (codes "Threw") n14,
-      beside_none name plain_outcomes plain,
     ) refl
+
+pub assembly_other : (line name text : List ℕ) →
+    name ≢ codes "BadMember" → name ≢ codes "Assembly" → name ≢ codes "NotCollectible" → name ≢ codes "NotFound" → name ≢ codes "NameMismatch" →
+    assembly_outcome line name text ≡ one_text line name text
+assembly_other line name text n0 n1 n2 n3 n4 =
+    rw (
+      not_word name (codes "BadMember") n0,
+      not_word name (codes "Assembly") n1,
+      not_word name (codes "NotCollectible") n2,
+      not_word name (codes "NotFound") n3,
+      not_word name (codes "NameMismatch") n4,
+    ) refl
+
+pub text_other : (line name text : List ℕ) →
+    name ≢ codes "NoType" → name ≢ codes "NoMethod" → name ≢ codes "NoField" → name ≢ codes "Ambiguous" → name ≢ codes "Threw" →
+    one_text line name text ≡ or_else (plain_outcome name) (replied_read line)
+text_other line name text n0 n1 n2 n3 n4 =
+    rw (
+      not_word name (codes "NoType") n0,
+      not_word name (codes "NoMethod") n1,
+      not_word name (codes "NoField") n2,
+      not_word name (codes "Ambiguous") n3,
+      not_word name (codes "Threw") n4,
+    ) refl
+
+pub plain_other : (line name : List ℕ) → AllByRecursion (λ (row : List ℕ × Outcome). name ≢ row.0) plain_outcomes →
+    or_else (plain_outcome name) (replied_read line) ≡ replied_read line
+plain_other line name none = ap (λ found. or_else found (replied_read line)) (beside_none name plain_outcomes none)

@@ -1,12 +1,17 @@
 -- Lemmas on what was read so far, and on the spelling of a line.
-use Rattle.std.proofs.Common.{◌≡◌, ℕ, ◌+◌, ◌-◌, List, Some, [], ◌∷◌, ◌++◌, length, take, ◌∙◌, ap, append-nil, arith, length-append}
-use Rattle.std.specs.Prelude.{codes}
+use Rattle.std.proofs.Common.{◌≡◌, ℕ, ◌+◌, ◌-◌, Bool, List, Some, None, [], ◌∷◌, ◌++◌, length, take, ◌∙◌, ap, append-nil, arith, length-append}
+use Rattle.std.specs.Prelude.{if◌then◌else◌, codes}
 use Rattle.std.specs.List.{flat_map}
+use Rattle.std.specs.Str.{bytes_eq}
 use Rattle.std.proofs.lemmas.Grind.{flat_map-append}
 use Rattle.std.proofs.Math.Seq.{take-append_seam}
 use Rattle.std.proofs.lemmas.List.Concat.{flat_map-cons}
 use Rattle.plug_io.specs.Sink.{HasAppended}
+use Rattle.host_report.specs.declared.told.Told.{Told}
+use Rattle.host_report.specs.Fields.{front_text}
+use Rattle.host_report.specs.LineStages.{spelled}
 use Rattle.host_report.specs.Report.{counted_texts}
+use Rattle.host_report.specs.Told.{told_fields}
 use Rattle.host_report.proofs.ReportLemmas.{counted_texts-append}
 
 pub counted_push : {T : Type 0} (text : ℕ → T → List ℕ) (n : ℕ) (xs : List T) (x : T) →
@@ -36,3 +41,8 @@ all_but_last front =
 pub front_of : (text front : List ℕ) (n : ℕ) → text ≡ front ++ codes "\n" → n ≡ length text - 1 → take n text ≡ front
 front_of text front n e last =
     ap (λ k. take k text) last ∙ ap (λ t. take (length t - 1) t) e ∙ all_but_last front
+
+-- a line, compared with the one spelling of what it tells
+pub compared : (told : Told) (line : List ℕ) (same : Bool) → bytes_eq (front_text (told_fields told)) line ≡ same →
+    spelled line told ≡ (if same then Some told else None)
+compared told line same e = ap (λ (test : Bool). if test then Some told else None) e

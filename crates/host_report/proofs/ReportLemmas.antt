@@ -1,9 +1,9 @@
 -- Lemmas on the texts of reports.
-use Rattle.std.proofs.Common.{◌≡◌, ℕ, ◌+◌, ◌<◌, List, Option, [], ◌∷◌, ◌++◌, length, take, get_or, sym, ◌∙◌, ap, append_assoc, append-nil, arith}
+use Rattle.std.proofs.Common.{◌≡◌, ℕ, ◌+◌, ◌<◌, ◌≤◌, List, Option, [], ◌∷◌, ◌++◌, length, take, get_or, sym, ◌∙◌, ap, append_assoc, append-nil, arith}
 use Rattle.std.specs.List.{flat_map}
 use Rattle.std.proofs.lemmas.Grind.{flat_map-append}
 use Rattle.std.proofs.lemmas.List.Concat.{flat_map-cons}
-use Rattle.std.proofs.lemmas.List.{take_more, length-take-le}
+use Rattle.std.proofs.lemmas.List.{take_all, take_more, length-take-le}
 use Rattle.host_report.specs.declared.line.Line.{Line}
 use Rattle.host_report.specs.Line.{Puts}
 use Rattle.host_report.specs.Report.{counted_texts}
@@ -46,3 +46,17 @@ puts_each {S} {T} {written} {faults} {old} {mid} {new} {from} {via} {to} text xs
     puts_as (sym (ap (flat_map text) (take_more xs i d h)
     ∙ flat_map-append text (take i xs) (get_or xs i d ∷ [])
     ∙ ap (λ t. flat_map text (take i xs) ++ t) (flat_map-cons text (get_or xs i d) [] ∙ append-nil (text (get_or xs i d)) ∙ ap text (sym item)))) (puts_then p q)
+
+-- all of the elements were put
+pub puts_numbered_all : {S T : Type 0} {written : S → Option (List ℕ)} {faults : S → ℕ} {old new : Line} {from to : S} (text : ℕ → T → List ℕ) (n : ℕ) (xs : List T) (i : ℕ) →
+    length xs ≤ i →
+    Puts written faults old from new to (counted_texts text n (take i xs)) →
+    Puts written faults old from new to (counted_texts text n xs)
+puts_numbered_all text n xs i h p = puts_as (ap (counted_texts text n) (take_all i xs h)) p
+
+-- the same of texts that are not numbered
+pub puts_each_all : {S T : Type 0} {written : S → Option (List ℕ)} {faults : S → ℕ} {old new : Line} {from to : S} (text : T → List ℕ) (xs : List T) (i : ℕ) →
+    length xs ≤ i →
+    Puts written faults old from new to (flat_map text (take i xs)) →
+    Puts written faults old from new to (flat_map text xs)
+puts_each_all text xs i h p = puts_as (ap (flat_map text) (take_all i xs h)) p

@@ -9,11 +9,13 @@ pub mod Laws
 pub mod Line
 pub mod LineReading
 pub mod LineStages
+pub mod OutcomeParts
 pub mod OutcomeReading
 pub mod Printable
 pub mod Quote
 pub mod ReadBack
 pub mod Reading
+pub mod ReplyParts
 pub mod ReplyReading
 pub mod Report
 pub mod Table

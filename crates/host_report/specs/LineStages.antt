@@ -1,5 +1,5 @@
 -- What the lines of a report come to, one after another (own: the reader's view, which no promise cites).
-use Rattle.std.specs.Prelude.{ℕ, ◌≡◌, ◌+◌, ◌==◌, nat_lt, if◌then◌else◌, List, [], ◌∷◌, ◌++◌, length, Option, Some, None, codes}
+use Rattle.std.specs.Prelude.{ℕ, ◌≡◌, ◌+◌, ◌==◌, ◌&&◌, nat_lt, if◌then◌else◌, true, false, Bool, List, [], ◌∷◌, ◌++◌, length, Option, Some, None, Result, Ok, Err, is_ok, codes}
 use Rattle.std.specs.List.{AllByRecursion}
 use Rattle.std.specs.Option.{option_and_then}
 use Rattle.std.specs.Str.{bytes_eq}
@@ -12,6 +12,8 @@ use Rattle.host_report.specs.declared.told.Told.{Told}
 use Rattle.host_report.specs.declared.told.Told.TheVariants as tolds
 use Rattle.host_report.specs.Fields.{front_text}
 use Rattle.host_report.specs.LineReading.{told_read}
+use Rattle.host_report.specs.Reading.{Reads}
+use Rattle.host_report.specs.declared.unread.Unread.{Unread}
 use Rattle.host_report.specs.ReadBack.{IsUnbroken, lines_text}
 use Rattle.host_report.specs.Told.{told_fields}
 
@@ -66,6 +68,16 @@ journal_after ends count entries (tolds.Entry number entry) =
 journal_after ends count entries tolds.End =
     if length entries == count then Some (Stage.Whole ends entries) else None
 
+-- lines of a thread come next
+abbrev pub is_in_threads : Stage → Bool
+is_in_threads (Stage.Thread ends commands printed) = true
+is_in_threads _ = false
+
+-- the entry of this number comes next
+abbrev pub is_due : ℕ → Stage → Bool
+is_due number (Stage.Journal ends count entries) = (number == length entries + 1) && nat_lt (length entries) count
+is_due number _ = false
+
 -- after one line more, behind the first
 abbrev pub told_after : Stage → Told → Option Stage
 told_after Stage.Head told = None
@@ -74,12 +86,18 @@ told_after (Stage.Thread ends commands printed) told = thread_after ends command
 told_after (Stage.Journal ends count entries) told = journal_after ends count entries told
 told_after (Stage.Whole ends entries) told = None
 
+-- this, where it is spelled as the line without its LF
+abbrev pub spelled : List ℕ → Told → Option Told
+spelled line told = if bytes_eq (front_text (told_fields told)) line then Some told else None
+
 -- what a line without its LF tells, spelled just so
 abbrev pub line_read : List ℕ → Option Told
-line_read line =
-    option_and_then
-    (λ told. if bytes_eq (front_text (told_fields told)) line then Some told else None)
-    (told_read line)
+line_read line = option_and_then (spelled line) (told_read line)
+
+-- what was read, if anything, was compared with the line
+abbrev pub Spells : {T : Type 0} → List ℕ → Result Told Unread → Result T Unread → Type 0
+Spells line (Ok told) compared = Reads (λ _. told) compared (spelled line told)
+Spells line (Err unread) compared = is_ok compared ≡ true
 
 -- after one line more, without its LF
 abbrev pub stage_after : Stage → List ℕ → Option Stage

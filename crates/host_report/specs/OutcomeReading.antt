@@ -133,6 +133,26 @@ abbrev pub or_else : Option Outcome → Option Outcome → Option Outcome
 or_else None other = other
 or_else (Some outcome) other = Some outcome
 
+-- an outcome of one text, whose first word this is, or another one
+abbrev pub one_text : List ℕ → List ℕ → List ℕ → Option Outcome
+one_text line name text =
+    if bytes_eq name (codes "NoType") then of_text outcomes.NoType text
+    else (if bytes_eq name (codes "NoMethod") then of_text outcomes.NoMethod text
+    else (if bytes_eq name (codes "NoField") then of_text outcomes.NoField text
+    else (if bytes_eq name (codes "Ambiguous") then of_text outcomes.Ambiguous text
+    else (if bytes_eq name (codes "Threw") then of_text outcomes.Threw text
+    else or_else (plain_outcome name) (replied_read line)))))
+
+-- an outcome of one number, token or name, or another one
+abbrev pub assembly_outcome : List ℕ → List ℕ → List ℕ → Option Outcome
+assembly_outcome line name text =
+    if bytes_eq name (codes "BadMember") then bad_member_read text
+    else (if bytes_eq name (codes "Assembly") then of_number outcomes.Assembly text
+    else (if bytes_eq name (codes "NotCollectible") then of_number outcomes.NotCollectible text
+    else (if bytes_eq name (codes "NotFound") then of_text outcomes.NotFound text
+    else (if bytes_eq name (codes "NameMismatch") then of_text outcomes.NameMismatch text
+    else one_text line name text))))
+
 -- the outcome of a text, whose first word this is, and of what stands behind that
 abbrev pub named_outcome : List ℕ → List ℕ → List ℕ → Option Outcome
 named_outcome line name text =
@@ -141,17 +161,7 @@ named_outcome line name text =
     else (if bytes_eq name (codes "BadImage") then bad_image_read text
     else (if bytes_eq name (codes "Unsupported") then unsupported_read text
     else (if bytes_eq name (codes "VerifyFault") then verify_fault_read text
-    else (if bytes_eq name (codes "BadMember") then bad_member_read text
-    else (if bytes_eq name (codes "Assembly") then of_number outcomes.Assembly text
-    else (if bytes_eq name (codes "NotCollectible") then of_number outcomes.NotCollectible text
-    else (if bytes_eq name (codes "NotFound") then of_text outcomes.NotFound text
-    else (if bytes_eq name (codes "NameMismatch") then of_text outcomes.NameMismatch text
-    else (if bytes_eq name (codes "NoType") then of_text outcomes.NoType text
-    else (if bytes_eq name (codes "NoMethod") then of_text outcomes.NoMethod text
-    else (if bytes_eq name (codes "NoField") then of_text outcomes.NoField text
-    else (if bytes_eq name (codes "Ambiguous") then of_text outcomes.Ambiguous text
-    else (if bytes_eq name (codes "Threw") then of_text outcomes.Threw text
-    else or_else (plain_outcome name) (replied_read line)))))))))))))))
+    else assembly_outcome line name text))))
 
 -- the outcome that the text is, up to its end
 unfoldable pub outcome_read : List ℕ → Option Outcome

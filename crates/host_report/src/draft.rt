@@ -1,6 +1,6 @@
 // A report, as far as it was read.
-ghost use Rattle.std.specs.Prelude.{◌≡◌, [], ◌∷◌, ◌++◌, Some};
-ghost use Rattle.host_report.specs.LineStages.{Stage, journal_after, stage, start_after};
+ghost use Rattle.std.specs.Prelude.{◌≡◌, [], ◌∷◌, ◌++◌, Some, None, if◌then◌else◌};
+ghost use Rattle.host_report.specs.LineStages.{Stage, is_due, is_in_threads, journal_after, stage, start_after};
 ghost use Rattle.host_report.specs.LineStages.{thread_after, told_after};
 ghost use Rattle.host_report.specs.Reading.{Reads};
 ghost use Rattle.host_report.specs.declared.draft.Part.{Part};
@@ -120,8 +120,7 @@ impl Draft {
         ensures entries { self.new.entries ≡ self.old.entries }
     {
         let commands = mem::replace(&mut self.commands, Vec::new(alloc));
-        self.ends.push(Listed::of(commands))?;
-        Ok(())
+        push(&mut self.ends, Listed::of(commands), true)
     }
 
     // The next command prints.
@@ -129,10 +128,8 @@ impl Draft {
         ensures { Reads (λ _. stage self.new) result
             (told_after (stage self.old) (Told.Print units)) }
     {
-        match self.part {
-            Part::Threads => Ok(self.printed.push(units)?),
-            Part::Head | Part::Start | Part::Journal | Part::Whole => Err(Unread::Differs),
-        }
+        let is_due = self.is_in_threads();
+        push(&mut self.printed, units, is_due)
     }
 
     // The next command ends.
@@ -140,21 +137,16 @@ impl Draft {
         ensures { Reads (λ _. stage self.new) result
             (told_after (stage self.old) (Told.Outcome outcome)) }
     {
-        match self.part {
-            Part::Threads => self.end_command(alloc, outcome),
-            Part::Head | Part::Start | Part::Journal | Part::Whole => Err(Unread::Differs),
-        }
+        let is_due = self.is_in_threads();
+        let lines = Lines::of(mem::replace(&mut self.printed, Vec::new(alloc)));
+        push(&mut self.commands, CommandEnd { lines, outcome }, is_due)
     }
 
-    fn end_command(&mut self, alloc: Global, outcome: Outcome) -> Result<(), Unread>
-        requires { self.old.part ≡ Part.Threads }
-        ensures { Reads (λ _. stage self.new) result
-            (thread_after self.old.ends.items self.old.commands.items self.old.printed.items
-            (Told.Outcome outcome)) }
+    // A test of whether lines of a thread come next.
+    fn is_in_threads(&self) -> bool
+        ensures { result ≡ is_in_threads (stage self.now) }
     {
-        let lines = Lines::of(mem::replace(&mut self.printed, Vec::new(alloc)));
-        self.commands.push(CommandEnd { lines, outcome })?;
-        Ok(())
+        matches!(self.part, Part::Threads)
     }
 
     fn take_journal(&mut self, alloc: Global, count: u32) -> Result<(), Unread>
@@ -181,9 +173,9 @@ impl Draft {
         if !self.printed.is_empty() {
             return Err(Unread::Differs);
         }
-        self.end_thread(alloc)?;
+        let ended = self.end_thread(alloc);
         self.begin_journal(count);
-        Ok(())
+        ended
     }
 
     fn begin_journal(&mut self, count: u32)
@@ -198,24 +190,18 @@ impl Draft {
         ensures { Reads (λ _. stage self.new) result
             (told_after (stage self.old) (Told.Entry number entry)) }
     {
-        match self.part {
-            Part::Journal => self.add(number, entry),
-            Part::Head | Part::Start | Part::Threads | Part::Whole => Err(Unread::Differs),
-        }
+        let is_due = self.is_due(number);
+        push(&mut self.entries, entry, is_due)
     }
 
-    fn add(&mut self, number: u32, entry: Entry) -> Result<(), Unread>
-        requires { self.old.part ≡ Part.Journal }
-        ensures { Reads (λ _. stage self.new) result
-            (journal_after self.old.ends.items self.old.count self.old.entries.items
-            (Told.Entry number entry)) }
+    // A test of whether the entry of this number comes next.
+    fn is_due(&self, number: u32) -> bool
+        ensures { result ≡ is_due number (stage self.now) }
     {
         let count = self.entries.len();
-        if number as usize != count + 1 || count >= self.count as usize {
-            return Err(Unread::Differs);
-        }
-        self.entries.push(entry)?;
-        Ok(())
+        matches!(self.part, Part::Journal)
+            && number as usize == count + 1
+            && count < self.count as usize
     }
 
     fn take_end(&mut self) -> Result<(), Unread>
@@ -237,4 +223,16 @@ impl Draft {
         self.part = Part::Whole;
         Ok(())
     }
+}
+
+// Adds the item where it is due; `Differs` where it is not.
+fn push<T: Drop>(items: &mut Vec<T>, item: T, is_due: bool) -> Result<(), Unread>
+    ensures { Reads (λ _. items.new.items) result
+        (if is_due then Some (items.old.items ++ item ∷ []) else None) }
+{
+    if !is_due {
+        return Err(Unread::Differs);
+    }
+    items.push(item)?;
+    Ok(())
 }

@@ -1,7 +1,7 @@
 // Outcomes, read.
 ghost use Rattle.std.specs.Prelude.{◌≡◌};
-ghost use Rattle.host_report.specs.OutcomeReading.{bad_image_read, check_named, given_read};
-ghost use Rattle.host_report.specs.OutcomeReading.{outcome_read, replied_read, rule_named};
+ghost use Rattle.host_report.specs.OutcomeReading.{assembly_outcome, bad_image_read, check_named, given_read};
+ghost use Rattle.host_report.specs.OutcomeReading.{or_else, outcome_read, plain_outcome, replied_read, rule_named, one_text};
 ghost use Rattle.host_report.specs.OutcomeReading.{unsupported_read, verify_fault_read, version_low_read};
 ghost use Rattle.host_report.specs.Printable.{ends_command};
 ghost use Rattle.host_report.specs.Reading.{Reads};
@@ -66,16 +66,44 @@ pub(crate) fn outcome(alloc: Global, line: &[u8]) -> Result<Outcome, Unread>
         "BadImage" => bad_image(rest),
         "Unsupported" => unsupported(rest),
         "VerifyFault" => verify_fault(rest),
+        _ => of_assembly(alloc, line, name, rest),
+    }
+}
+
+// An outcome of one number, token or name, or another one.
+fn of_assembly(alloc: Global, line: &[u8], name: &str, rest: &[u8]) -> Result<Outcome, Unread>
+    ensures { Reads (λ outcome. outcome) result (assembly_outcome line.now name.now rest.now) }
+{
+    match name {
         "BadMember" => Ok(Outcome::BadMember(token(rest)?.0)),
         "Assembly" => Ok(Outcome::Assembly(number(rest)?.0)),
         "NotCollectible" => Ok(Outcome::NotCollectible(number(rest)?.0)),
         "NotFound" => Ok(Outcome::NotFound(simple_name(alloc, rest)?.0)),
         "NameMismatch" => Ok(Outcome::NameMismatch(simple_name(alloc, rest)?.0)),
+        _ => of_text(alloc, line, name, rest),
+    }
+}
+
+// An outcome of one text, or another one.
+fn of_text(alloc: Global, line: &[u8], name: &str, rest: &[u8]) -> Result<Outcome, Unread>
+    ensures { Reads (λ outcome. outcome) result (one_text line.now name.now rest.now) }
+{
+    match name {
         "NoType" => Ok(Outcome::NoType(text(alloc, rest)?.0)),
         "NoMethod" => Ok(Outcome::NoMethod(text(alloc, rest)?.0)),
         "NoField" => Ok(Outcome::NoField(text(alloc, rest)?.0)),
         "Ambiguous" => Ok(Outcome::Ambiguous(text(alloc, rest)?.0)),
         "Threw" => Ok(Outcome::Threw(text(alloc, rest)?.0)),
+        _ => plain(alloc, line, name),
+    }
+}
+
+// An outcome that is a word, or a reply.
+fn plain(alloc: Global, line: &[u8], name: &str) -> Result<Outcome, Unread>
+    ensures { Reads (λ outcome. outcome) result
+        (or_else (plain_outcome name.now) (replied_read line.now)) }
+{
+    match name {
         "Void" => Ok(Outcome::Void),
         "Budget" => Ok(Outcome::Budget),
         "EventLimit" => Ok(Outcome::EventLimit),

@@ -2,11 +2,9 @@
 ghost use Rattle.std.specs.Prelude.{ℕ, ◌≡◌, ◌-◌, ◌^◌, ◌<◌, ◌++◌, List, [], length, codes};
 ghost use Rattle.std.specs.Prelude.{IfOk, IfSome, IfNone, IsErrOf};
 ghost use Rattle.std.specs.Str.{bytes_eq};
-ghost use Rattle.host_report.specs.Fields.{front_text};
-ghost use Rattle.host_report.specs.LineStages.{IsUnfinished, Stage, line_read, stage, stage_after};
+ghost use Rattle.host_report.specs.LineStages.{IsUnfinished, Spells, Stage, line_read, spelled, stage, stage_after};
 ghost use Rattle.host_report.specs.ReadBack.{IsReadBack, IsRefusedAt, IsUnbroken};
 ghost use Rattle.host_report.specs.Reading.{Reads};
-ghost use Rattle.host_report.specs.Told.{told_fields};
 
 use crate::collected::Collected;
 use crate::draft::{Draft, Part};
@@ -121,17 +119,27 @@ fn take_head(draft: &mut Draft, line: &[u8]) -> Result<(), Unread>
 fn read_line(alloc: Global, printer: &mut Printer, line: &[u8]) -> Result<Told, Unread>
     ensures { Reads (λ told. told) result (line_read line.now) }
 {
-    let told = read_told(alloc, line)?;
-    if !spells(printer, &told, line)? {
-        return Err(Unread::Differs);
-    }
-    Ok(told)
+    let told = read_told(alloc, line);
+    check_spelling(printer, &told, line).and(told)
 }
 
-// A test of whether the line is what it is spelled as.
-fn spells(printer: &mut Printer, told: &Told, line: &[u8]) -> Result<bool, Unread>
-    ensures same { IfOk result (λ same. same ≡ bytes_eq (front_text (told_fields told.now)) line.now) }
-    ensures failed { IsErrOf result Unread.Differs → ⊥ }
+// `Differs` where something was read that is not spelled as the line.
+fn check_spelling(
+    printer: &mut Printer,
+    told: &Result<Told, Unread>,
+    line: &[u8],
+) -> Result<(), Unread>
+    ensures { Spells line.now told.now result }
+{
+    match told {
+        Ok(told) => spell(printer, told, line),
+        Err(_) => Ok(()),
+    }
+}
+
+// `Differs` where this is not spelled as the line.
+fn spell(printer: &mut Printer, told: &Told, line: &[u8]) -> Result<(), Unread>
+    ensures { Reads (λ _. told.now) result (spelled line.now told.now) }
 {
     printer.line.clear();
     printer.sink.bytes.clear();
@@ -140,7 +148,10 @@ fn spells(printer: &mut Printer, told: &Told, line: &[u8]) -> Result<bool, Unrea
     if printer.line.has_failed() {
         return Err(Unread::OutOfMemory);
     }
-    Ok(is_line(printer.sink.bytes.as_slice(), line))
+    if !is_line(printer.sink.bytes.as_slice(), line) {
+        return Err(Unread::Differs);
+    }
+    Ok(())
 }
 
 // A test of whether the text of a line is this with an LF after it.

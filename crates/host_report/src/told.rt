@@ -1,5 +1,6 @@
 // What one line of a report tells.
 ghost use Rattle.std.specs.Prelude.{◌≡◌, ◌+◌, List, [], ◌∷◌, ◌++◌, codes, option_map};
+ghost use Rattle.std.specs.Prelude.{IfErr, IfOk, Ok, Err};
 ghost use Rattle.host_report.specs.Fields.{line_text};
 ghost use Rattle.host_report.specs.Line.{Puts};
 ghost use Rattle.host_report.specs.LineReading.{answered_read, entry_read, told_read, worded_line};
@@ -104,11 +105,26 @@ fn answered(
     ensures { Reads (λ told. told) result (answered_read count thread event rest.now) }
 {
     let (_, rest) = word(rest);
-    let reply = reply(alloc, rest)?;
-    let entry = Entry {
-        thread,
-        event,
-        reply,
-    };
-    Ok(Told::Entry(count, entry))
+    match beside(event, reply(alloc, rest)) {
+        Ok((event, reply)) => {
+            let entry = Entry {
+                thread,
+                event,
+                reply,
+            };
+            Ok(Told::Entry(count, entry))
+        }
+        Err(unread) => Err(unread),
+    }
+}
+
+// Both values, if the second was read.
+fn beside<A: Drop, B: Drop>(first: A, second: Result<B, Unread>) -> Result<(A, B), Unread>
+    ensures read { IfOk result (λ both. (both.0 ≡ first) × (second ≡ Ok both.1)) }
+    ensures unread { IfErr result (λ unread. second ≡ Err unread) }
+{
+    match second {
+        Ok(second) => Ok((first, second)),
+        Err(unread) => Err(unread),
+    }
 }

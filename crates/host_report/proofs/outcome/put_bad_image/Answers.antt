@@ -6,4 +6,4 @@ use Rattle.host_report.proofs.outcome.put_bad_image.Goals as goal
 pub returns : goal.returns
 returns g c =
     let name = puts_as (ap spaced (c.as_bytes.ensures.value ∙ c.name.ensures)) c.put_word.ensures in
-    puts_then c.put.ensures (puts_then name (puts_then c.put_decimal.ensures puts_none))
+    puts_then name (puts_then c.put_decimal.ensures puts_none)

@@ -6,4 +6,4 @@ use Rattle.host_report.proofs.outcome.put_verify_fault.Goals as goal
 pub returns : goal.returns
 returns g c =
     let rule = puts_as (ap spaced c.rule_word.ensures) c.put_word.ensures in
-    puts_then c.put.ensures (puts_then c.put_token.ensures (puts_then c.put_decimal.ensures (puts_then rule puts_none)))
+    puts_then c.put_token.ensures (puts_then c.put_decimal.ensures (puts_then rule puts_none))
