@@ -76,7 +76,10 @@ pub value_given : {T : Type 0} (text_of : List ℕ → T) (units_of : T → List
     (text : List ℕ) → GivesFirst (IsValue units_of IsText) (value_read text_of text)
 value_given {T = K} text_of units_of IsText same is text =
     fronted (gives_then (keyword_read text) (named_value text_of) gives_any (λ kind rest _.
-    gives_if (bytes_eq kind (codes "i4"))
+    gives_if (bytes_eq kind (codes "s"))
+    (gives_then (units_read rest) (λ units rest. Some (values.S (text_of units), rest)) (units_given rest) (λ units rest are.
+    gives_some _ (values.S (text_of units), rest) ((tt, (subst AreUnits (sym (same units)) are, tt)), is units)))
+    (gives_if (bytes_eq kind (codes "i4"))
     (gives_then (int_read rest) (λ number rest. Some (values.I4 number, rest)) (record { each = int_in_range rest }) (λ number rest fits.
     gives_some _ (values.I4 number, rest) ((tt, (fits, tt)), tt)))
     (gives_if (bytes_eq kind (codes "i8"))
@@ -85,9 +88,6 @@ value_given {T = K} text_of units_of IsText same is text =
     (gives_if (bytes_eq kind (codes "n"))
     (gives_then (long_read rest) (λ number rest. Some (values.N number, rest)) (record { each = long_in_range rest }) (λ number rest fits.
     gives_some _ (values.N number, rest) ((tt, (fits, tt)), tt)))
-    (gives_if (bytes_eq kind (codes "s"))
-    (gives_then (units_read rest) (λ units rest. Some (values.S (text_of units), rest)) (units_given rest) (λ units rest are.
-    gives_some _ (values.S (text_of units), rest) ((tt, (subst AreUnits (sym (same units)) are, tt)), is units)))
     (gives_if (bytes_eq kind (codes "null"))
     (gives_some _ (values.Null, rest) ((tt, tt), tt))
     (gives_none _)))))))

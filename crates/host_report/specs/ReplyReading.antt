@@ -11,15 +11,20 @@ use Rattle.host_report.specs.Keyword.{keyword_read, beside}
 use Rattle.host_report.specs.Reading.{then_read}
 use Rattle.host_report.specs.TextReading.{units_read}
 
--- the value of a kind, whose text is made of its units
-abbrev pub named_value : {T : Type 0} → (List ℕ → T) → List ℕ → List ℕ → Option (Datum T × List ℕ)
-named_value text_of kind text =
+-- a number or null, of which this is the kind
+abbrev pub scalar : {T : Type 0} → List ℕ → List ℕ → Option (Datum T × List ℕ)
+scalar kind text =
     if bytes_eq kind (codes "i4") then then_read (int_read text) (λ number rest. Some (values.I4 number, rest))
     else (if bytes_eq kind (codes "i8") then then_read (long_read text) (λ number rest. Some (values.I8 number, rest))
     else (if bytes_eq kind (codes "n") then then_read (long_read text) (λ number rest. Some (values.N number, rest))
-    else (if bytes_eq kind (codes "s") then then_read (units_read text) (λ units rest. Some (values.S (text_of units), rest))
     else (if bytes_eq kind (codes "null") then Some (values.Null, text)
-    else None))))
+    else None)))
+
+-- the value of a kind, whose text is made of its units
+abbrev pub named_value : {T : Type 0} → (List ℕ → T) → List ℕ → List ℕ → Option (Datum T × List ℕ)
+named_value text_of kind text =
+    if bytes_eq kind (codes "s") then then_read (units_read text) (λ units rest. Some (values.S (text_of units), rest))
+    else scalar kind text
 
 -- a value that is no reference
 abbrev pub value_read : {T : Type 0} → (List ℕ → T) → List ℕ → Option (Datum T × List ℕ)

@@ -1,7 +1,7 @@
 // A report, as far as it was read.
 ghost use Rattle.std.specs.Prelude.{◌≡◌, [], ◌∷◌, ◌++◌, Some, None, if◌then◌else◌};
-ghost use Rattle.host_report.specs.LineStages.{Stage, is_due, is_in_threads, journal_after, stage, start_after};
-ghost use Rattle.host_report.specs.LineStages.{thread_after, told_after};
+ghost use Rattle.host_report.specs.LineStages.{Stage, is_due, is_in_threads, journal_after, stage};
+ghost use Rattle.host_report.specs.LineStages.{start_after, thread_after, told_after};
 ghost use Rattle.host_report.specs.Reading.{Reads};
 ghost use Rattle.host_report.specs.declared.draft.Part.{Part};
 

@@ -13,10 +13,10 @@ ghost use Rattle.host_report.specs.ReplyReading.{value_read};
 ghost use Rattle.host_report.specs.TextReading.{units_read};
 
 use crate::key_reading::key;
-use crate::reply_reading::keyword;
+use crate::reply_reading::{keyword, scalar};
 use crate::text_reading::text;
-use crate::unread::Unread;
-use crate::words::{int, long, name, number, version, word};
+use crate::unread::{Unread, beside};
+use crate::words::{name, number, version, word};
 use assembly_name::SimpleName;
 use cli_words::{Name, Units};
 use host_events::{AskStep, Candidate, ContextKind, Datum, Event, RuleAnswer, RuleAt, ValueKind};
@@ -106,8 +106,8 @@ fn resolving(alloc: Global, rest: &[u8]) -> Result<(Event, &[u8]), Unread>
 fn rule(alloc: Global, place: RuleAt, rest: &[u8]) -> Result<(Event, &[u8]), Unread>
     ensures { Reads (λ x. (x.0, x.1.now)) result (rule_read place rest.now) }
 {
-    let (name, rest) = simple_name(alloc, rest)?;
-    let (answer, rest) = answer(alloc, rest)?;
+    let (place, (name, rest)) = beside(place, simple_name(alloc, rest))?;
+    let ((place, name), (answer, rest)) = beside((place, name), answer(alloc, rest))?;
     let event = Event::Rule {
         place,
         name,
@@ -259,24 +259,11 @@ pub(crate) fn value(alloc: Global, rest: &[u8]) -> Result<(Datum<Units>, &[u8]),
 {
     let (kind, rest) = keyword(rest)?;
     match kind {
-        "i4" => {
-            let (number, rest) = int(rest)?;
-            Ok((Datum::I4(number), rest))
-        }
-        "i8" => {
-            let (number, rest) = long(rest)?;
-            Ok((Datum::I8(number), rest))
-        }
-        "n" => {
-            let (number, rest) = long(rest)?;
-            Ok((Datum::N(number), rest))
-        }
         "s" => {
             let (text, rest) = text(alloc, rest)?;
             Ok((Datum::S(text), rest))
         }
-        "null" => Ok((Datum::Null, rest)),
-        _ => Err(Unread::Differs),
+        _ => scalar(kind, rest),
     }
 }
 

@@ -217,7 +217,7 @@ fn take_part(draft: &mut Draft, part: KeyPart) -> Result<(), Unread>
     ensures { Reads (λ _. drafted draft.new) result
         (closed (drafted draft.old).outers (part ∷ (drafted draft.old).parts)) }
 {
-    put(&mut draft.parts, part)?;
+    push(&mut draft.parts, part)?;
     close(draft)
 }
 
@@ -229,7 +229,7 @@ fn close(draft: &mut Draft) -> Result<(), Unread>
 {
     while is_element(&draft.outers) {
         let _array = pop(&mut draft.outers);
-        put(&mut draft.parts, KeyPart::Vector)?;
+        push(&mut draft.parts, KeyPart::Vector)?;
     }
     count_argument(draft)
 }
@@ -251,10 +251,10 @@ fn count_argument(draft: &mut Draft) -> Result<(), Unread>
     }
 }
 
-fn push(outers: &mut Vec<Outer>, outer: Outer) -> Result<(), Unread>
-    ensures { Reads (λ _. reverse outers.new.items) result (Some (outer ∷ reverse outers.old.items)) }
+fn push<T: Drop>(items: &mut Vec<T>, item: T) -> Result<(), Unread>
+    ensures { Reads (λ _. reverse items.new.items) result (Some (item ∷ reverse items.old.items)) }
 {
-    Ok(outers.push(outer)?)
+    Ok(items.push(item)?)
 }
 
 fn pop(outers: &mut Vec<Outer>) -> Option<Outer>
@@ -264,12 +264,6 @@ fn pop(outers: &mut Vec<Outer>) -> Option<Outer>
     ensures none_left { IfNone result (reverse outers.new.items ≡ []) }
 {
     outers.pop()
-}
-
-fn put(parts: &mut Vec<KeyPart>, part: KeyPart) -> Result<(), Unread>
-    ensures { Reads (λ _. reverse parts.new.items) result (Some (part ∷ reverse parts.old.items)) }
-{
-    Ok(parts.push(part)?)
 }
 
 fn is_element(outers: &[Outer]) -> bool

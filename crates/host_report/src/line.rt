@@ -1,6 +1,6 @@
 // A text on its way to a sink, through a buffer that was taken before.
 ghost use Rattle.std.specs.Prelude.{◌≡◌, ℕ, ◌+◌, ◌-◌, ◌≤◌, ◌<◌, List, [], ◌++◌, length, false};
-ghost use Rattle.std.specs.Prelude.{OnOk, OnErr, vec_len, vec_capacity, decimal};
+ghost use Rattle.std.specs.Prelude.{IfOk, OnOk, OnErr, vec_len, vec_capacity, decimal};
 ghost use Rattle.plug_io.specs.Faults.{HasRisen};
 ghost use Rattle.plug_io.specs.Sink.{HasAppended};
 ghost use Rattle.host_report.specs.Line.{HasStopped, Puts};
@@ -22,7 +22,10 @@ pub struct Line {
 
 impl Line {
     /// An empty line, with the memory that it will ever need.
-    pub fn new(alloc: Global) -> Result<Line, AllocError> {
+    pub fn new(alloc: Global) -> Result<Line, AllocError>
+        ensures waiting { IfOk result (λ line. line.buffer.items ≡ []) }
+        ensures failed { IfOk result (λ line. line.failed ≡ false) }
+    {
         let buffer = Vec::with_capacity(alloc, ROOM)?;
         Ok(Line {
             buffer,

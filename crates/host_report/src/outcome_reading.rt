@@ -1,7 +1,8 @@
 // Outcomes, read.
 ghost use Rattle.std.specs.Prelude.{◌≡◌};
-ghost use Rattle.host_report.specs.OutcomeReading.{assembly_outcome, bad_image_read, check_named, given_read};
-ghost use Rattle.host_report.specs.OutcomeReading.{or_else, outcome_read, plain_outcome, replied_read, rule_named, one_text};
+ghost use Rattle.host_report.specs.OutcomeReading.{assembly_outcome, bad_image_read, check_named};
+ghost use Rattle.host_report.specs.OutcomeReading.{given_read, one_text, or_else, outcome_read};
+ghost use Rattle.host_report.specs.OutcomeReading.{plain_outcome, replied_read, rule_named};
 ghost use Rattle.host_report.specs.OutcomeReading.{unsupported_read, verify_fault_read, version_low_read};
 ghost use Rattle.host_report.specs.Printable.{ends_command};
 ghost use Rattle.host_report.specs.Reading.{Reads};

@@ -2,7 +2,8 @@
 ghost use Rattle.std.specs.Prelude.{ℕ, ◌≡◌, ◌-◌, ◌^◌, ◌<◌, ◌++◌, List, [], length, codes};
 ghost use Rattle.std.specs.Prelude.{IfOk, IfSome, IfNone, IsErrOf};
 ghost use Rattle.std.specs.Str.{bytes_eq};
-ghost use Rattle.host_report.specs.LineStages.{IsUnfinished, Spells, Stage, line_read, spelled, stage, stage_after};
+ghost use Rattle.host_report.specs.LineStages.{IsUnfinished, Spells, Stage, line_read, spelled};
+ghost use Rattle.host_report.specs.LineStages.{stage, stage_after};
 ghost use Rattle.host_report.specs.ReadBack.{IsReadBack, IsRefusedAt, IsUnbroken};
 ghost use Rattle.host_report.specs.Reading.{Reads};
 

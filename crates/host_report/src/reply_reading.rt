@@ -4,7 +4,7 @@ ghost use Rattle.host_events.specs.Reserved.{sealed};
 ghost use Rattle.host_report.specs.Keyword.{beside, keyword_read};
 ghost use Rattle.host_report.specs.Reading.{Reads};
 ghost use Rattle.host_report.specs.ReplyReading.{numbered_reply, numbers_read, plain_replies, reply_of_one};
-ghost use Rattle.host_report.specs.ReplyReading.{reply_read, value_read};
+ghost use Rattle.host_report.specs.ReplyReading.{reply_read, scalar, value_read};
 
 use crate::text_reading::units;
 use crate::unread::Unread;
@@ -146,6 +146,22 @@ fn text_value(alloc: Global, rest: &[u8]) -> Result<(Datum<Text>, &[u8]), Unread
 {
     let (kind, rest) = keyword(rest)?;
     match kind {
+        "s" => {
+            let (units, rest) = units(alloc, rest)?;
+            Ok((Datum::S(Text::of(units)), rest))
+        }
+        _ => scalar(kind, rest),
+    }
+}
+
+/// A number or null, of which the kind was read.
+pub(crate) fn scalar<'a, T: Drop>(
+    kind: &str,
+    rest: &'a [u8],
+) -> Result<(Datum<T>, &'a [u8]), Unread>
+    ensures { Reads (λ x. (x.0, x.1.now)) result (scalar kind.now rest.now) }
+{
+    match kind {
         "i4" => {
             let (number, rest) = int(rest)?;
             Ok((Datum::I4(number), rest))
@@ -157,10 +173,6 @@ fn text_value(alloc: Global, rest: &[u8]) -> Result<(Datum<Text>, &[u8]), Unread
         "n" => {
             let (number, rest) = long(rest)?;
             Ok((Datum::N(number), rest))
-        }
-        "s" => {
-            let (units, rest) = units(alloc, rest)?;
-            Ok((Datum::S(Text::of(units)), rest))
         }
         "null" => Ok((Datum::Null, rest)),
         _ => Err(Unread::Differs),

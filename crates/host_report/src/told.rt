@@ -1,6 +1,5 @@
 // What one line of a report tells.
-ghost use Rattle.std.specs.Prelude.{◌≡◌, ◌+◌, List, [], ◌∷◌, ◌++◌, codes, option_map};
-ghost use Rattle.std.specs.Prelude.{IfErr, IfOk, Ok, Err};
+ghost use Rattle.std.specs.Prelude.{option_map};
 ghost use Rattle.host_report.specs.Fields.{line_text};
 ghost use Rattle.host_report.specs.Line.{Puts};
 ghost use Rattle.host_report.specs.LineReading.{answered_read, entry_read, told_read, worded_line};
@@ -13,7 +12,7 @@ use crate::line::{Line, put};
 use crate::outcome_reading::outcome;
 use crate::reply_reading::{keyword, reply};
 use crate::text_reading::text;
-use crate::unread::Unread;
+use crate::unread::{Unread, beside};
 use crate::words::{number, word};
 use crate::writing::{put_count_line, put_entry, put_outcome_line, put_printed};
 use cli_words::Units;
@@ -114,17 +113,6 @@ fn answered(
             };
             Ok(Told::Entry(count, entry))
         }
-        Err(unread) => Err(unread),
-    }
-}
-
-// Both values, if the second was read.
-fn beside<A: Drop, B: Drop>(first: A, second: Result<B, Unread>) -> Result<(A, B), Unread>
-    ensures read { IfOk result (λ both. (both.0 ≡ first) × (second ≡ Ok both.1)) }
-    ensures unread { IfErr result (λ unread. second ≡ Err unread) }
-{
-    match second {
-        Ok(second) => Ok((first, second)),
         Err(unread) => Err(unread),
     }
 }

@@ -3,3 +3,4 @@ pub mod Paths
 pub mod Runs
 pub mod Chains
 pub mod Heads
+pub mod Distances

@@ -53,6 +53,15 @@ next_within code at end next =
     ] in
     by (form_of (opcode_at code at)) next.1
 
+-- each place of a path lies in the code
+pub path_within : (code : List ℕ) (from : ℕ) (places : List ℕ) (to : ℕ) → IsPath code from places to →
+    (k : ℕ) → k < length places → slice_index places k < length code
+path_within code from [] to path k less = absurd (omega (arith, less))
+path_within code from (at ∷ places) to path zero less =
+    let within = next_within code at path.1 path.2 in omega (arith, within.0, within.1)
+path_within code from (at ∷ places) to path (suc k) less =
+    path_within code path.1 places to path.3 k (omega (arith, less))
+
 -- no instruction stands at the end
 pub none_at_end : (code : List ℕ) → instruction_at code (length code) ≡ None
 none_at_end code = no (instruction_at code (length code)) refl

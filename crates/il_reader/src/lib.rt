@@ -12,7 +12,10 @@ mod section;
 pub use body::{Body, read_body};
 pub use fault::IlFault;
 pub use instruction::{Instr, Operand, next};
-pub use laws::{boundaries_or_break, not_broken, one_break};
+pub use laws::{
+    boundaries_are_one_list, boundaries_lie_in_the_code, boundaries_or_break,
+    distances_lie_in_the_code, not_broken, one_break,
+};
 pub use offsets::boundaries;
 pub use section::{CATCH, Clause, Clauses, FAULT, FILTER, FINALLY};
 

@@ -1,0 +1,13 @@
+pub mod Kinds
+pub mod Effects
+pub mod Lines
+pub mod Depths
+pub mod Typings
+pub mod Faults
+pub mod Laws
+pub mod Search
+pub mod TypeRules
+pub mod Pools
+pub mod Waits
+pub mod Samples
+pub mod Worklist
