@@ -1,5 +1,5 @@
 -- What each check of an image tells of a column of a row that is there, by what the image holds.
-use Rattle.std.proofs.Common.{◌≡◌, ℕ, zero, suc, ◌+◌, ◌-◌, ◌*◌, ◌<◌, ◌≤◌, ◌==◌, ◌&&◌, nat_le, true, false, List, length, Option, Some, None, is_some, refl, sym, ap, subst, ◌∙◌, arith, drop}
+use Rattle.std.proofs.Common.{◌≡◌, ℕ, zero, suc, ◌+◌, ◌-◌, ◌*◌, ◌^◌, ◌<◌, ◌≤◌, ◌==◌, ◌&&◌, nat_le, true, false, List, length, Option, Some, None, is_some, refl, sym, ap, subst, ◌∙◌, arith, drop}
 use Rattle.std.proofs.lemmas.Bool.{and_parts}
 use Rattle.std.proofs.lemmas.List.{length-take}
 use Rattle.std.proofs.lemmas.Bool.Decides.{nat_tests}
@@ -28,6 +28,7 @@ use Rattle.assembly_image.specs.Checks.{content_checks, is_inside, is_in_order, 
 use Rattle.assembly_image.specs.Reading.{metadata_of, heaps_of, tables_of, module_in, module_of, Reads}
 use Rattle.assembly_image.proofs.ModuleLemmas.{known, count_held, cell_held}
 use Rattle.assembly_image.proofs.PassLemmas.{inside_passes, order_passes, text_passes}
+use Rattle.assembly_image.proofs.FewRows.{few_if_pass}
 
 held_as : (bytes : List ℕ) (m : Module) → Reads bytes m → m ≡ module_in bytes (heaps_of bytes) (tables_of bytes)
 unfolding module_of
@@ -46,9 +47,18 @@ module _ (bytes : List ℕ) (m : Module) (reads : Reads bytes m) where
       (both_none (stream_checks bytes root.tables) _
       (both_none (root_checks bytes (metadata_of bytes)) _ (both_none (pe_checks bytes) _ reads.passes).1).1).1
 
+  streams_pass : first_fault (stream_checks bytes root.tables) ≡ None
+  streams_pass =
+      (both_none (stream_checks bytes root.tables) _
+      (both_none (root_checks bytes (metadata_of bytes)) _ (both_none (pe_checks bytes) _ reads.passes).1).1).0
+
   pub same_count : (table : ℕ) → table < 45 → count m table ≡ count_of (tables_of bytes) table
   same_count table h =
       ap (λ (held : Module). count held table) (held_as bytes m reads) ∙ count_held bytes root layout table h
+
+  pub few_rows : (table : ℕ) → table < 45 → count m table < 2 ^ 24
+  unfolding tables_of
+  few_rows table h = subst (λ n. n < 2 ^ 24) (sym (same_count table h)) (few_if_pass bytes root.tables streams_pass table)
 
   same_rows : (table n : ℕ) → table < 45 → has_row m table n ≡ true → layouts.has_row layout table n ≡ true
   same_rows table n h there = ap (λ (c : ℕ). nat_le 1 n && nat_le n c) (sym (same_count table h)) ∙ there

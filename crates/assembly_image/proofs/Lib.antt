@@ -15,3 +15,4 @@ mod MemberLemmas
 mod ScopeLemmas
 mod TextStarts
 mod IndexLemmas
+pub mod FewRows

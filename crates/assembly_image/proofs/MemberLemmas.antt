@@ -1,5 +1,5 @@
 -- The fields and the methods of a type.
-use Rattle.std.proofs.Common.{◌≡◌, ℕ, ◌+◌, ◌-◌, ◌<◌, ◌≤◌, nat_le, nat_lt, ◌&&◌, Bool, true, List, length, Some, None, refl, ap, subst, ◌∙◌, arith, inl, inr}
+use Rattle.std.proofs.Common.{◌^◌, ◌≡◌, ℕ, ◌+◌, ◌-◌, ◌<◌, ◌≤◌, nat_le, nat_lt, ◌&&◌, Bool, true, List, length, Some, None, refl, ap, subst, ◌∙◌, arith, inl, inr}
 use Rattle.std.proofs.lemmas.Bool.{cases_Bool}
 use Rattle.std.proofs.lemmas.Bool.Decides.{nat_tests}
 use Rattle.std.specs.List.{find, range_with_len}
@@ -16,7 +16,7 @@ use Rattle.assembly_image.specs.Members.{table_of, list_of_kind, after_list, mem
 use Rattle.assembly_image.specs.Names.{has_type}
 use Rattle.assembly_image.specs.Reading.{Reads}
 use Rattle.assembly_image.proofs.FindLemmas.{NoneBetween, find_first, find_none}
-use Rattle.assembly_image.proofs.Facts.{list_rises}
+use Rattle.assembly_image.proofs.Facts.{list_rises, list_inside, few_rows}
 use Rattle.assembly_image.proofs.Lists.{rises_by_steps, type_found, type_missing}
 
 pub known_table : (kind : Member) → table_of kind < 45
@@ -89,6 +89,17 @@ module _ (bytes : List ℕ) (m : Module) (reads : Reads bytes m) (kind : Member)
       let later : has_row m tables.type_def (i + 1) ≡ true = grind (arith, nat_tests) in
       let column = list_column kind in
       list_rises bytes m reads tables.type_def i (list_of_kind kind) (table_of kind) here later column.0 column.1
+
+  -- a list begins within its table, or after its last row
+  pub start_inside : (row : ℕ) → 1 ≤ row → row ≤ types → start row ≤ 2 ^ 24
+  start_inside row some most =
+      let here : has_row m tables.type_def row ≡ true = grind (arith, nat_tests) in
+      let column = list_column kind in
+      let inside = list_inside bytes m reads tables.type_def row (list_of_kind kind) here column.0
+      (table_of kind) (known_table kind) column.1 in
+      let few = few_rows bytes m reads (table_of kind) (known_table kind) in
+      let most : start row ≤ count m (table_of kind) + 1 = inside.1 in
+      omega (arith, most, few)
 
   pub starts_rise : (i j : ℕ) → 1 ≤ i → i ≤ j → j ≤ types → start i ≤ start j
   starts_rise i j some h most =

@@ -6,7 +6,7 @@ ghost use Rattle.metadata_tables.specs.Layout.{row_of};
 ghost use Rattle.metadata_tables.specs.Tables.{table_count};
 ghost use Rattle.assembly_image.specs.Cells as cells;
 ghost use Rattle.assembly_image.specs.Module as held;
-ghost use Rattle.assembly_image.specs.Reading.{tables_of, module_of};
+ghost use Rattle.assembly_image.specs.Reading.{tables_of, module_of, Reads};
 
 use crate::image::AssemblyImage;
 use crate::strings::text;
@@ -73,8 +73,9 @@ impl AssemblyImage {
 
     /// What stands in the file at a column of a row: a number, or an index; 0 where there is no such
     /// row.
-    fn index(&self, table: u8, n: u32, k: usize) -> u32
+    pub(crate) fn index(&self, table: u8, n: u32, k: usize) -> u32
         requires { k < length (columns_of table) }
+        ensures reads { Reads self.now (module_of self.now) }
         ensures value { result
             ≡ cells.value_in (row_of self.now (tables_of self.now) table n) k }
         ensures range { column_of table k ≡ Column.U16 → result < 2 ^ 16 }

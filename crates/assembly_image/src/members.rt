@@ -53,9 +53,10 @@ impl Member {
 
 impl AssemblyImage {
     /// The rows of a type's fields, or of its methods: the first, and the one after the last. Both
-    /// are 0 where there is no such type. ECMA-335 II.22.37.
+    /// are 0 where there is no such type, and neither is past 2^24. ECMA-335 II.22.37.
     pub fn members(&self, kind: Member, row: u32) -> Range<u32>
-        ensures { result ≡ spec.member_range (module_of self.now) kind row }
+        ensures value { result ≡ spec.member_range (module_of self.now) kind row }
+        ensures few { result.end ≤ 2 ^ 24 }
     {
         if row == 0 || self.types() < row {
             return 0..0;
@@ -117,16 +118,22 @@ impl AssemblyImage {
 
     /// The row at which a list of a type begins.
     fn list_start(&self, kind: Member, row: u32) -> u32
-        ensures { result
+        requires first { 1 ≤ row }
+        requires last { row ≤ held.count (module_of self.now) tables.type_def }
+        ensures value { result
             ≡ held.number (module_of self.now) tables.type_def row (spec.list_of_kind kind) }
+        ensures few { result ≤ 2 ^ 24 }
     {
-        self.number(table::TYPE_DEF, row, kind.list())
+        self.index(table::TYPE_DEF, row, kind.list())
     }
 
     /// The row after the last of a list of a type.
     fn list_end(&self, kind: Member, row: u32) -> u32
-        ensures { result ≡ spec.after_list (module_of self.now) (spec.table_of kind) row
+        requires first { 1 ≤ row }
+        requires last { row ≤ held.count (module_of self.now) tables.type_def }
+        ensures value { result ≡ spec.after_list (module_of self.now) (spec.table_of kind) row
             (spec.list_of_kind kind) }
+        ensures few { result ≤ 2 ^ 24 }
     {
         if row < self.types() {
             self.list_start(kind, row + 1)

@@ -4,18 +4,17 @@ use Rattle.std.proofs.Math.Seq.{drop-cons}
 use Rattle.il_flow.specs.Families.{Family}
 use Rattle.il_flow.specs.Merging.{Held}
 use Rattle.il_verifier.specs.declared.line.Line.{Line}
-use Rattle.il_verifier.specs.declared.joins.Join.{Join}
 use Rattle.il_verifier.specs.Effects.{stack_after, depth_after}
 use Rattle.il_verifier.specs.Lines.{line_at}
 use Rattle.il_verifier.specs.Depths.{goes_to, is_place}
 use Rattle.il_verifier.specs.Search.{LeadsInside}
-use Rattle.il_verifier.specs.Pools.{stack_by, Grows}
+use Rattle.il_verifier.specs.Pools.{stack_by, Grows, Noted}
 use Rattle.il_verifier.specs.Worklist.{Stacks, stack_at, stacks_by, weights, AreIds, IsSound, HasMet, AreStacks, AreHandedBut, AreSought}
 use Rattle.il_verifier.specs.Laws.{Rises}
 use Rattle.il_verifier.proofs.Order.{IsMerging}
 use Rattle.il_verifier.proofs.Notes.{place-among}
 use Rattle.il_verifier.proofs.Pools.{Pool, grows-on, grows-same}
-use Rattle.il_verifier.proofs.Ways.{joins-grow}
+use Rattle.il_verifier.proofs.Ways.{noted-grow}
 use Rattle.il_verifier.proofs.Meeting.{CanMeet, stacks-met, handed-met}
 use Rattle.il_verifier.proofs.Reaching.{IsClean, deep-after, one-depth}
 use Rattle.il_verifier.proofs.Weights.{AreRanks, met-lighter}
@@ -23,7 +22,7 @@ use Rattle.il_verifier.proofs.Turns.{by-some, by-length, grown-at, ids-grow, IsT
 
 -- what is known while it is
 pub record IsGoing (family : Family) (max : ℕ) (lines : List (Option Line)) (at : ℕ) (own : List Held) (pending : List (Option ℕ))
-    (base pool : Pool) (joins : List (Option Join)) (ids : List (Option ℕ)) (list : List ℕ) (before : ℕ) : Type 0 where
+    (base pool : Pool) (joins : Noted) (ids : List (Option ℕ)) (list : List ℕ) (before : ℕ) : Type 0 where
   pub sound : IsSound family pool joins ids
   pub grows : Grows base pool
   pub sized : length ids ≡ length lines
@@ -61,7 +60,7 @@ turn-of family max lines at id line after pool ids list merging rises clean here
 
 -- no place was handed a stack yet
 pub going-first : (family : Family) (max : ℕ) (lines : List (Option Line)) (at id : ℕ) (line : Line) (goes : List (Option ℕ))
-    (old new : Pool) (joins : List (Option Join)) (ids : List (Option ℕ)) (list : List ℕ) → line_at lines at ≡ Some line →
+    (old new : Pool) (joins : Noted) (ids : List (Option ℕ)) (list : List ℕ) → line_at lines at ≡ Some line →
     goes ≡ line.goes → get_or ids at None ≡ Some id → Grows old new → IsSound family old joins ids →
     AreSought family max lines (stacks_by old ids) (list ++ at ∷ []) →
     IsGoing family max lines at (stack_by old id) (drop 0 goes) new new joins ids list
@@ -74,7 +73,7 @@ going-first family max lines at id line goes old new joins ids list here same so
     record {
       sound = record {
         numbered = ids-grow old new ids grows sound.numbered;
-        noted = joins-grow family old new joins grows sound.noted;
+        noted = noted-grow family old new joins grows sound.noted;
       };
       grows = grows-same new;
       sized = sym (by-length old ids) ∙ sought.sized;
@@ -91,7 +90,7 @@ drop-more goes i less =
 
 -- no instruction begins at a place
 pub going-skip : (family : Family) (max : ℕ) (lines : List (Option Line)) (at : ℕ) (own : List Held) (goes : List (Option ℕ)) (i : ℕ)
-    (base pool : Pool) (joins : List (Option Join)) (ids : List (Option ℕ)) (list : List ℕ) (before : ℕ) → i < length goes →
+    (base pool : Pool) (joins : Noted) (ids : List (Option ℕ)) (list : List ℕ) (before : ℕ) → i < length goes →
     get_or goes i None ≡ None → IsGoing family max lines at own (drop i goes) base pool joins ids list before →
     IsGoing family max lines at own (drop (i + 1) goes) base pool joins ids list before
 going-skip family max lines at own goes i base pool joins ids list before less none going = record {
@@ -128,7 +127,7 @@ going-even family max lines at to id own after line pool ids list turn goes foun
 
 -- one more place has met the stack
 pub going-next : (family : Family) (max : ℕ) (lines : List (Option Line)) (at to id : ℕ) (own after : List Held) (line : Line)
-    (goes : List (Option ℕ)) (i : ℕ) (base old new : Pool) (joins new-joins : List (Option Join)) (ids new-ids : List (Option ℕ))
+    (goes : List (Option ℕ)) (i : ℕ) (base old new : Pool) (joins new-joins : Noted) (ids new-ids : List (Option ℕ))
     (listed list : List ℕ) (before : ℕ) → IsTurn family max lines at own after line → AreRanks family → LeadsInside lines →
     goes ≡ line.goes → i < length goes → get_or goes i None ≡ Some to → stack_by base id ≡ after → id < length base →
     IsGoing family max lines at own (drop i goes) base old joins ids listed before → IsSound family new new-joins new-ids →
@@ -176,7 +175,7 @@ going-next family max lines at to id own after line goes i base old new joins ne
 
 -- each place has met it
 pub going-last : (family : Family) (max : ℕ) (lines : List (Option Line)) (at : ℕ) (own : List Held) (goes : List (Option ℕ)) (i : ℕ)
-    (base pool : Pool) (joins : List (Option Join)) (ids : List (Option ℕ)) (list : List ℕ) (before : ℕ) → length goes ≤ i →
+    (base pool : Pool) (joins : Noted) (ids : List (Option ℕ)) (list : List ℕ) (before : ℕ) → length goes ≤ i →
     IsGoing family max lines at own (drop i goes) base pool joins ids list before → AreSought family max lines (stacks_by pool ids) list
 going-last family max lines at own goes i base pool joins ids list before past going = record {
   sized = by-length pool ids ∙ going.sized;

@@ -18,6 +18,8 @@ pub mod Firsts
 pub mod Zips
 pub mod Keeping
 pub mod Meeting
+pub mod Entries
+pub mod Fits
 pub mod Pools
 pub mod Ways
 pub mod Reaching

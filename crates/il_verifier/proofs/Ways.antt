@@ -7,7 +7,7 @@ use Rattle.il_flow.specs.Families.{Family}
 use Rattle.il_flow.specs.Merging.{Held, joined}
 use Rattle.il_verifier.specs.declared.joins.Pair.{Pair}
 use Rattle.il_verifier.specs.declared.joins.Join.{Join}
-use Rattle.il_verifier.specs.Pools.{stack_by, joined_all, IsOn, Grows, IsMade, IsEven, IsJoin, AreJoins, IsKnown, IsStep, IsWay}
+use Rattle.il_verifier.specs.Pools.{stack_by, joined_all, IsOn, Grows, IsMade, IsEven, IsJoin, AreJoins, Noted, AreNoted, IsKnown, IsStep, IsWay}
 use Rattle.il_verifier.proofs.Order.{IsMerging}
 use Rattle.il_verifier.proofs.Pools.{Pool}
 
@@ -107,6 +107,13 @@ join-grows family old new join grows is = record {
 pub joins-grow : (family : Family) (old new : Pool) (joins : List (Option Join)) → Grows old new →
     AreJoins family old joins → AreJoins family new joins
 joins-grow family old new joins grows all join there = join-grows family old new join grows (all join there)
+
+pub noted-grow : (family : Family) (old new : Pool) (joins : Noted) → Grows old new →
+    AreNoted family old joins → AreNoted family new joins
+noted-grow family old new joins grows all = record {
+  joins = joins-grow family old new joins.joins grows all.joins;
+  merges = all.merges;
+}
 
 -- one pair more on the way
 pub way-push : (pool : Pool) (path : List Pair) (start pair next : Pair) → IsWay pool start path pair → IsStep pool pair next →

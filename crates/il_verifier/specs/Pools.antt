@@ -4,10 +4,12 @@ use Rattle.std.specs.Prelude.{◌≡◌, ◌≢◌, ◌⊎◌, ℕ, ◌<◌, ◌
 use Rattle.std.specs.Prelude.{Option, Some, None}
 use Rattle.std.specs.List.{fold}
 use Rattle.il_flow.specs.Families.{Family}
-use Rattle.il_flow.specs.Merging.{Held, joined}
+use Rattle.il_flow.specs.declared.stack.StackType.TheVariants.{Ref}
+use Rattle.il_flow.specs.Merging.{Held, joined, merged}
 use Rattle.il_verifier.specs.declared.pool.Node.{Node}
 use Rattle.il_verifier.specs.declared.joins.Pair.{Pair}
 use Rattle.il_verifier.specs.declared.joins.Join.{Join}
+use Rattle.il_verifier.specs.declared.pairs.Entry.{Entry}
 
 -- the stack with a number
 abbrev pub stack_by : List (List Held) → ℕ → List Held
@@ -67,6 +69,20 @@ pub record IsJoin (family : Family) (pool : List (List Held)) (join : Join) : Ty
 
 abbrev pub AreJoins : Family → List (List Held) → List (Option Join) → Type 0
 AreJoins family pool joins = (join : Join) → Contains joins (Some join) → IsJoin family pool join
+
+-- what two references merge to
+abbrev pub AreMerges : Family → List (Entry Held) → Type 0
+AreMerges family merges =
+    (entry : Entry Held) → Contains merges entry → entry.found ≡ merged family (Ref entry.low) (Ref entry.high)
+
+-- what is noted of pairs of stacks, and of pairs of references
+pub record Noted : Type 0 where
+  pub joins : List (Option Join)
+  pub merges : List (Entry Held)
+
+pub record AreNoted (family : Family) (pool : List (List Held)) (noted : Noted) : Type 0 where
+  pub joins : AreJoins family pool noted.joins
+  pub merges : AreMerges family noted.merges
 
 -- what is known of a pair: that its stacks are one, or what was noted of it
 abbrev pub IsKnown : List (Option Join) → Pair → Option ℕ → Type 0

@@ -1,8 +1,10 @@
 -- What is told of the rules on types at one instruction (own).
-use Rattle.std.specs.Prelude.{◌≡◌, ◌<◌, ℕ, List, Option, Some, None, Contains}
+use Rattle.std.specs.Prelude.{◌≡◌, ◌↔◌, ◌<◌, ℕ, Bool, IsTrue, List, Option, Some, None, Contains}
 use Rattle.host_events.specs.declared.outcome.VerifyRule.{VerifyRule}
 use Rattle.il_flow.specs.Families.{Family}
 use Rattle.il_flow.specs.Merging.{Held}
+use Rattle.il_flow.specs.Assigning.{Suits}
+use Rattle.il_verifier.specs.declared.pairs.Entry.{Entry}
 use Rattle.il_verifier.specs.declared.line.Line.{Line}
 use Rattle.il_verifier.specs.Lines.{line_at}
 use Rattle.il_verifier.specs.Depths.{IsReached}
@@ -32,3 +34,8 @@ abbrev pub IsTypeFault : Family → ℕ → List (Option Line) → Typing → Op
 IsTypeFault family max lines typing None = AreKept family max lines typing
 IsTypeFault family max lines typing (Some fault) =
     IsFirst (FailsTypes family max lines typing) type_rules fault.0 fault.1
+
+-- whether references suit places
+abbrev pub AreFits : Family → List (Entry Bool) → Type 0
+AreFits family fits =
+    (entry : Entry Bool) → Contains fits entry → IsTrue entry.found ↔ Suits family entry.low entry.high

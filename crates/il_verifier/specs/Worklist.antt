@@ -11,8 +11,7 @@ use Rattle.il_verifier.specs.Lines.{line_at}
 use Rattle.il_verifier.specs.Depths.{goes_to, IsReached}
 use Rattle.il_verifier.specs.Typings.{Typing, IsClosed}
 use Rattle.il_verifier.specs.Search.{is_among}
-use Rattle.il_verifier.specs.declared.joins.Join.{Join}
-use Rattle.il_verifier.specs.Pools.{stack_by, joined_all, AreJoins}
+use Rattle.il_verifier.specs.Pools.{stack_by, joined_all, Noted, AreNoted}
 
 abbrev pub Stacks : Type 0
 Stacks = List (Option (List Held))
@@ -26,9 +25,9 @@ abbrev pub AreIds : List (List Held) → List (Option ℕ) → Type 0
 AreIds pool ids = (at id : ℕ) → slice_index_or ids at None ≡ Some id → id < length pool
 
 -- what is known of the stacks of places and of the joins that are noted
-pub record IsSound (family : Family) (pool : List (List Held)) (joins : List (Option Join)) (ids : List (Option ℕ)) : Type 0 where
+pub record IsSound (family : Family) (pool : List (List Held)) (joins : Noted) (ids : List (Option ℕ)) : Type 0 where
   pub numbered : AreIds pool ids
-  pub noted : AreJoins family pool joins
+  pub noted : AreNoted family pool joins
 
 -- the stack at a place that was visited
 abbrev pub stack_at : Stacks → ℕ → Option (List Held)

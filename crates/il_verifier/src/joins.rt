@@ -1,13 +1,15 @@
 //! Two stacks as one.
-ghost use Rattle.std.specs.Prelude.{◌≡◌, ◌≢◌, ◌⊎◌, ◌↔◌, IsTrue, not, Contains, Some, IfOk, OnOk};
-ghost use Rattle.il_flow.specs.Merging.{joined};
+ghost use Rattle.std.specs.Prelude.{◌≡◌, ◌≢◌, ◌⊎◌, ◌↔◌, [], IsTrue, not, Contains, Some};
+ghost use Rattle.std.specs.Prelude.{IfOk, OnOk};
+ghost use Rattle.il_flow.specs.Merging.{joined, merged};
 ghost use Rattle.il_verifier.specs.declared.joins.Join.{Join};
 ghost use Rattle.il_verifier.specs.Pools.{
   stack_by,
   Grows,
   IsEven,
   IsJoin,
-  AreJoins,
+  AreMerges,
+  AreNoted,
   IsKnown,
   IsStep,
   IsWay,
@@ -16,6 +18,7 @@ ghost use Rattle.il_verifier.specs.Pools.{
 use crate::filled::nothing_at;
 use crate::gift::copy_held;
 use crate::keys::is_same_key;
+use crate::pairs::{Entry, Pairs};
 use crate::pool::Pool;
 use il_flow::{Parents, StackType, merge, merging_is_least};
 use std::alloc::{AllocError, Global};
@@ -35,20 +38,24 @@ pub(crate) struct Join {
     pub(crate) both: usize,
 }
 
-/// Some of the joins that were made. A join of two deep stacks is often asked for again, at another
-/// place or with other values on top.
+/// What references merge to.
+type Merges = Pairs<Option<StackType>>;
+
+/// Some of the joins that were made, and each merging of two references. A join of two deep stacks
+/// is often asked for again, at another place or with other values on top.
 #[derive(Drop)]
 pub(crate) struct Joins {
     kept: Vec<Option<Join>>,
+    merges: Merges,
 }
 
 impl Model for Joins {
-    ghost use Rattle.std.specs.Prelude.{◌<◌, List, Option, length};
-    ghost use Rattle.il_verifier.specs.declared.joins.Join.{Join};
+    ghost use Rattle.std.specs.Prelude.{◌<◌, length};
+    ghost use Rattle.il_verifier.specs.Pools.{Noted};
 
-    ghost Value = { List (Option Join) };
+    ghost Value = { Noted };
 
-    ghost view = { λ joins. joins.kept.items };
+    ghost view = { λ joins. record { joins = joins.kept.items; merges = joins.merges } };
 
     ghost invariant = { λ joins. 0 < length joins.kept.items };
 }
@@ -56,16 +63,19 @@ impl Model for Joins {
 impl Joins {
     /// Room for so many, and for one at least.
     pub(crate) fn new(alloc: Global, room: usize) -> Result<Joins, AllocError>
-        ensures { IfOk result (λ joins. (join : Join) → Contains joins (Some join) → ⊥) }
+        ensures joins { IfOk result (λ noted.
+            (join : Join) → Contains noted.joins (Some join) → ⊥) }
+        ensures merges { IfOk result (λ noted. noted.merges ≡ []) }
     {
         Ok(Joins {
             kept: nothing_at(alloc, room.max(1))?,
+            merges: Pairs::new(alloc),
         })
     }
 
     /// A pair as one stack, where that is known.
     fn known(&self, pair: Pair) -> Option<usize>
-        ensures { IsKnown self.now pair result }
+        ensures { IsKnown self.now.joins pair result }
     {
         if pair.own == pair.after {
             return Some(pair.own);
@@ -78,8 +88,9 @@ impl Joins {
 
     /// Notes a join in the place of another.
     fn note(&mut self, join: Join)
-        ensures { (other : Join) → Contains self.new (Some other) →
-            Contains self.old (Some other) ⊎ (other ≡ join) }
+        ensures joins { (other : Join) → Contains self.new.joins (Some other) →
+            Contains self.old.joins (Some other) ⊎ (other ≡ join) }
+        ensures merges { self.new.merges ≡ self.old.merges }
     {
         let slot = join.pair.own % self.kept.len();
         self.kept[slot] = Some(join);
@@ -115,21 +126,50 @@ fn is_same_held(a: &Option<StackType>, b: &Option<StackType>) -> bool
     }
 }
 
+/// What two types merge to. It is sought once for two references: their chains are long.
+fn merge_once<P: Parents>(
+    alloc: Global,
+    parents: &P,
+    merges: &mut Merges,
+    own: &StackType,
+    after: &StackType,
+) -> Result<Option<StackType>, AllocError>
+    requires { AreMerges (P.family parents.now) merges.old }
+    ensures merges { OnOk result (AreMerges (P.family parents.now) merges.new) }
+    ensures held { IfOk result (λ held.
+        held ≡ merged (P.family parents.now) own.now after.now) }
+{
+    let (StackType::Ref(low), StackType::Ref(high)) = (own, after) else {
+        return merge(alloc, parents, own, after);
+    };
+    if let Some(held) = merges.find(low, high) {
+        return copy_held(alloc, held.as_ref());
+    }
+    let held = merge(alloc, parents, own, after)?;
+    let found = copy_held(alloc, held.as_ref())?;
+    merges.note(Entry::of(alloc, low, high, found)?)?;
+    Ok(held)
+}
+
 /// What two places of a stack hold, as one.
 fn join_held<P: Parents>(
     alloc: Global,
     parents: &P,
+    merges: &mut Merges,
     own: &Option<StackType>,
     after: &Option<StackType>,
 ) -> Result<Option<StackType>, AllocError>
-    ensures { IfOk result (λ held. held ≡ joined (P.family parents.now) own.now after.now) }
+    requires { AreMerges (P.family parents.now) merges.old }
+    ensures merges { OnOk result (AreMerges (P.family parents.now) merges.new) }
+    ensures held { IfOk result (λ held.
+        held ≡ joined (P.family parents.now) own.now after.now) }
 {
     merging_is_least();
     if is_same_held(own, after) {
         return copy_held(alloc, own.as_ref());
     }
     match (own, after) {
-        (Some(own), Some(after)) => merge(alloc, parents, own, after),
+        (Some(own), Some(after)) => merge_once(alloc, parents, merges, own, after),
         _ => Ok(None),
     }
 }
@@ -163,7 +203,8 @@ fn descend(alloc: Global, pool: &Pool, joins: &Joins, pair: Pair) -> Result<Desc
     requires { IsEven pool.now pair }
     ensures way { IfOk result (λ found. IsWay pool.now pair found.path.items found.low.pair) }
     ensures even { IfOk result (λ found. IsEven pool.now found.low.pair) }
-    ensures known { IfOk result (λ found. IsKnown joins.now found.low.pair (Some found.low.both)) }
+    ensures known { IfOk result (λ found.
+        IsKnown joins.now.joins found.low.pair (Some found.low.both)) }
 {
     let mut path = Vec::new(alloc);
     let mut pair = pair;
@@ -194,12 +235,15 @@ fn is_same_top(
 fn raise<P: Parents>(
     alloc: Global,
     parents: &P,
+    merges: &mut Merges,
     pool: &mut Pool,
     low: Join,
     pair: Pair,
 ) -> Result<Join, AllocError>
+    requires merges { AreMerges (P.family parents.now) merges.old }
     requires step { IsStep pool.old pair low.pair }
     requires low { IsJoin (P.family parents.now) pool.old low }
+    ensures merges { OnOk result (AreMerges (P.family parents.now) merges.new) }
     ensures grows { OnOk result (Grows pool.old pool.new) }
     ensures pair { IfOk result (λ join. join.pair ≡ pair) }
     ensures join { IfOk result (IsJoin (P.family parents.now) pool.new) }
@@ -210,7 +254,7 @@ fn raise<P: Parents>(
     let Some(after) = pool.top(pair.after) else {
         unreachable!()
     };
-    let held = join_held(alloc, parents, &own.held, &after.held)?;
+    let held = join_held(alloc, parents, merges, &own.held, &after.held)?;
     if is_same_top(low.both, &held, low.pair.own, &own.held) {
         let both = pair.own;
         return Ok(Join { pair, both });
@@ -234,16 +278,16 @@ fn ascend<P: Parents>(
 ) -> Result<Join, AllocError>
     requires way { IsWay pool.old start descent.path.items descent.low.pair }
     requires low { IsJoin (P.family parents.now) pool.old descent.low }
-    requires joins { AreJoins (P.family parents.now) pool.old joins.old }
+    requires joins { AreNoted (P.family parents.now) pool.old joins.old }
     ensures grows { OnOk result (Grows pool.old pool.new) }
-    ensures joins { OnOk result (AreJoins (P.family parents.now) pool.new joins.new) }
+    ensures joins { OnOk result (AreNoted (P.family parents.now) pool.new joins.new) }
     ensures pair { IfOk result (λ join. join.pair ≡ start) }
     ensures join { IfOk result (IsJoin (P.family parents.now) pool.new) }
 {
     let Descent { mut path, low } = descent;
     let mut join = low;
     'up: while let Some(pair) = path.pop() {
-        join = raise(alloc, parents, pool, join, pair)?;
+        join = raise(alloc, parents, &mut joins.merges, pool, join, pair)?;
         joins.note(join);
     }
     Ok(join)
@@ -258,9 +302,9 @@ pub(crate) fn join_pair<P: Parents>(
     pair: Pair,
 ) -> Result<Join, AllocError>
     requires even { IsEven pool.old pair }
-    requires joins { AreJoins (P.family parents.now) pool.old joins.old }
+    requires joins { AreNoted (P.family parents.now) pool.old joins.old }
     ensures grows { OnOk result (Grows pool.old pool.new) }
-    ensures joins { OnOk result (AreJoins (P.family parents.now) pool.new joins.new) }
+    ensures joins { OnOk result (AreNoted (P.family parents.now) pool.new joins.new) }
     ensures pair { IfOk result (λ join. join.pair ≡ pair) }
     ensures join { IfOk result (IsJoin (P.family parents.now) pool.new) }
 {

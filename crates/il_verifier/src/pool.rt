@@ -1,8 +1,9 @@
 //! Stacks that share what lies at their bottoms.
-ghost use Rattle.std.specs.Prelude.{◌≡◌, ◌⊎◌, ◌-◌, ◌<◌, ◌≤◌, ◌+◌, ◌++◌, ◌∷◌, [], map, length, take, drop, slice_index_or, false, ◌||◌, option_copied, IfOk, OnOk};
+ghost use Rattle.std.specs.Prelude.{◌≡◌, ◌⊎◌, ◌-◌, ◌<◌, ◌≤◌, ◌+◌, ◌++◌, ◌∷◌, [], List, IsTrue, map, length, take, drop, slice_index_or, false, ◌||◌, option_copied, IfOk, OnOk};
 ghost use Rattle.std.specs.Prelude.{is_none};
 ghost use Rattle.std.specs.List.{list_any};
 ghost use mathlib.Core.List.{reverse};
+ghost use Rattle.il_flow.specs.Merging.{Held};
 ghost use Rattle.il_verifier.specs.Effects.{given, operands_on, stack_after};
 ghost use Rattle.il_verifier.specs.Pools.{stack_by, IsTop, Grows, IsMade};
 
@@ -177,6 +178,14 @@ pub(crate) fn operands(
     upper(alloc, pool, id, takes(&effect.operands))
 }
 
+/// The types of gifts are told without the operands: of a call, which may have many.
+fn are_told(gives: &[Gift]) -> bool
+    ensures { IsTrue result → (operands : List Held) →
+        map (given []) gives.now ≡ map (given operands) gives.now }
+{
+    matches!(gives, [] | [Gift::Is(_)])
+}
+
 /// A stack with what an instruction gives on another.
 fn push_gifts(
     alloc: Global,
@@ -207,7 +216,11 @@ pub(crate) fn stack_after(
     ensures { IfOk result (IsMade pool.old pool.new
         (stack_after effect.now (stack_by pool.old id))) }
 {
-    let operands = operands(alloc, pool, effect, id)?;
     let low = beneath(pool, id, takes(&effect.operands));
-    push_gifts(alloc, pool, low, &operands, effect.gives.items())
+    let gives = effect.gives.items();
+    if are_told(gives) {
+        return push_gifts(alloc, pool, low, &[], gives);
+    }
+    let operands = operands(alloc, pool, effect, id)?;
+    push_gifts(alloc, pool, low, &operands, gives)
 }

@@ -3,7 +3,6 @@ ghost use Rattle.std.specs.Prelude.{◌≡◌, ◌↔◌, ◌<◌, ◌∷◌, []
 ghost use Rattle.std.specs.Prelude.{is_none};
 ghost use Rattle.std.specs.List.{AllZip, list_any};
 ghost use Rattle.il_flow.specs.StackTypes.{is_object};
-ghost use Rattle.il_flow.specs.Assigning.{Suits};
 ghost use Rattle.il_verifier.specs.Effects.{
   is_int32,
   IsOrSuits,
@@ -20,10 +19,11 @@ use crate::effect::{Elements, Operands, Want};
 use crate::gift::{agreed, is_number, is_size};
 use crate::keys::{is_reference, is_same_key, width_of_key};
 use crate::kind::Width;
+use crate::known::Known;
 use crate::line::Line;
 use crate::pool::{Pool, operands, upper};
 use host_events::VerifyRule;
-use il_flow::{Parents, StackType, assignable};
+use il_flow::{Parents, StackType};
 use signatures::TypeKey;
 use std::alloc::{AllocError, Global};
 
@@ -54,25 +54,10 @@ fn is_int32(held: &StackType) -> bool
     matches!(held, StackType::Int32)
 }
 
-/// A reference to a type suits a place of another.
-fn suits<P: Parents>(
-    alloc: Global,
-    parents: &P,
-    value: &TypeKey,
-    place: &TypeKey,
-) -> Result<bool, AllocError>
-    ensures { IfOk result (λ fits. IsTrue fits
-        ↔ Suits (P.family parents.now) value.now place.now) }
-{
-    let value = StackType::Ref(value.share(alloc)?);
-    let place = StackType::Ref(place.share(alloc)?);
-    assignable(alloc, parents, &value, &place)
-}
-
 /// A type is the other, or both are references of which the one suits the other.
 fn is_or_suits<P: Parents>(
     alloc: Global,
-    parents: &P,
+    parents: &Known<'_, P>,
     value: &TypeKey,
     place: &TypeKey,
 ) -> Result<bool, AllocError>
@@ -88,12 +73,12 @@ fn is_or_suits<P: Parents>(
     if !is_reference(place.key().parts()) {
         return Ok(false);
     }
-    suits(alloc, parents, value, place)
+    parents.suits(alloc, value, place)
 }
 
 fn are_elements<P: Parents>(
     alloc: Global,
-    parents: &P,
+    parents: &Known<'_, P>,
     elements: &Elements,
     element: &TypeKey,
 ) -> Result<bool, AllocError>
@@ -112,7 +97,7 @@ fn are_elements<P: Parents>(
 /// A reference to an array of such elements.
 fn is_such_array<P: Parents>(
     alloc: Global,
-    parents: &P,
+    parents: &Known<'_, P>,
     elements: &Elements,
     key: &TypeKey,
 ) -> Result<bool, AllocError>
@@ -128,7 +113,7 @@ fn is_such_array<P: Parents>(
 /// Null, or an array of such elements.
 fn is_array_of<P: Parents>(
     alloc: Global,
-    parents: &P,
+    parents: &Known<'_, P>,
     elements: &Elements,
     held: &StackType,
 ) -> Result<bool, AllocError>
@@ -145,7 +130,7 @@ fn is_array_of<P: Parents>(
 /// An operand is of the kind that is wanted.
 fn is_wanted<P: Parents>(
     alloc: Global,
-    parents: &P,
+    parents: &Known<'_, P>,
     want: &Want,
     held: &StackType,
 ) -> Result<bool, AllocError>
@@ -165,7 +150,7 @@ fn is_wanted<P: Parents>(
 /// A value goes into its place, where one is wanted.
 fn has_place<P: Parents>(
     alloc: Global,
-    parents: &P,
+    parents: &Known<'_, P>,
     want: &Want,
     held: &StackType,
 ) -> Result<bool, AllocError>
@@ -173,7 +158,7 @@ fn has_place<P: Parents>(
         ↔ HasPlace (P.family parents.now) want.now held.now) }
 {
     match want {
-        Want::Into(place) => assignable(alloc, parents, held, place),
+        Want::Into(place) => parents.assignable(alloc, held, place),
         _ => Ok(true),
     }
 }
@@ -181,7 +166,7 @@ fn has_place<P: Parents>(
 /// The same where the operand has a type.
 fn is_wanted_held<P: Parents>(
     alloc: Global,
-    parents: &P,
+    parents: &Known<'_, P>,
     want: &Want,
     held: Option<&StackType>,
 ) -> Result<bool, AllocError>
@@ -196,7 +181,7 @@ fn is_wanted_held<P: Parents>(
 
 fn has_place_held<P: Parents>(
     alloc: Global,
-    parents: &P,
+    parents: &Known<'_, P>,
     want: &Want,
     held: Option<&StackType>,
 ) -> Result<bool, AllocError>
@@ -212,7 +197,7 @@ fn has_place_held<P: Parents>(
 /// Each operand is of the kind that is wanted.
 fn each_is_wanted<P: Parents>(
     alloc: Global,
-    parents: &P,
+    parents: &Known<'_, P>,
     wants: &[Want],
     held: &[Option<StackType>],
 ) -> Result<bool, AllocError>
@@ -233,7 +218,7 @@ fn each_is_wanted<P: Parents>(
 /// Each value goes into its place, where one is wanted.
 fn each_has_place<P: Parents>(
     alloc: Global,
-    parents: &P,
+    parents: &Known<'_, P>,
     wants: &[Want],
     held: &[Option<StackType>],
 ) -> Result<bool, AllocError>
@@ -273,7 +258,7 @@ fn go_together(references: bool, a: &StackType, b: &StackType) -> bool
 /// The operands are of the kinds that are wanted.
 fn are_wanted<P: Parents>(
     alloc: Global,
-    parents: &P,
+    parents: &Known<'_, P>,
     operands: &Operands,
     held: &[Option<StackType>],
 ) -> Result<bool, AllocError>
@@ -290,7 +275,7 @@ fn are_wanted<P: Parents>(
 /// The operands go into their places.
 fn have_places<P: Parents>(
     alloc: Global,
-    parents: &P,
+    parents: &Known<'_, P>,
     operands: &Operands,
     held: &[Option<StackType>],
 ) -> Result<bool, AllocError>
@@ -306,7 +291,7 @@ fn have_places<P: Parents>(
 /// A stack is just one value that goes into a place.
 fn gives_back<P: Parents>(
     alloc: Global,
-    parents: &P,
+    parents: &Known<'_, P>,
     place: &StackType,
     stack: &[Option<StackType>],
 ) -> Result<bool, AllocError>
@@ -314,7 +299,7 @@ fn gives_back<P: Parents>(
         ↔ IsGivenBack (P.family parents.now) (Some place.now) stack.now) }
 {
     match stack {
-        [Some(held)] => assignable(alloc, parents, held, place),
+        [Some(held)] => parents.assignable(alloc, held, place),
         _ => Ok(false),
     }
 }
@@ -322,7 +307,7 @@ fn gives_back<P: Parents>(
 /// A stack is what a method gives back.
 fn is_given_back<P: Parents>(
     alloc: Global,
-    parents: &P,
+    parents: &Known<'_, P>,
     given: &Option<StackType>,
     stack: &[Option<StackType>],
 ) -> Result<bool, AllocError>
@@ -338,7 +323,7 @@ fn is_given_back<P: Parents>(
 /// At a return a stack is what the method gives back.
 fn returns<P: Parents>(
     alloc: Global,
-    parents: &P,
+    parents: &Known<'_, P>,
     operands: &Operands,
     stack: &[Option<StackType>],
 ) -> Result<bool, AllocError>
@@ -355,7 +340,7 @@ fn returns<P: Parents>(
 /// on its top.
 fn returns_well<P: Parents>(
     alloc: Global,
-    parents: &P,
+    parents: &Known<'_, P>,
     operands: &Operands,
     pool: &Pool,
     id: usize,
@@ -372,7 +357,7 @@ fn returns_well<P: Parents>(
 /// whether types that do not merge met at a place of it.
 pub(crate) fn type_rule<P: Parents>(
     alloc: Global,
-    parents: &P,
+    parents: &Known<'_, P>,
     line: &Line,
     pool: &Pool,
     id: usize,

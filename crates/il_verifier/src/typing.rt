@@ -141,7 +141,8 @@ fn begin(alloc: Global, lines: &[Option<Line>]) -> Result<Search, AllocError>
     requires { 0 < length lines.now }
     ensures pool { IfOk result (λ search. search.pool ≡ [] ∷ []) }
     ensures joins { IfOk result (λ search.
-        (join : Join) → Contains search.joins (Some join) → ⊥) }
+        (join : Join) → Contains search.joins.joins (Some join) → ⊥) }
+    ensures merges { IfOk result (λ search. search.joins.merges ≡ []) }
     ensures sized { IfOk result (λ search. length search.stacks.items ≡ length lines.now) }
     ensures stacks { IfOk result (λ search. (at : ℕ) → depth_at search.stacks.items at ≡ start at) }
     ensures todo { IfOk result (λ search. search.todo ≡ 0 ∷ []) }

@@ -11,6 +11,7 @@ ghost use Rattle.il_verifier.specs.Worklist.{stack_at, stacks_by, typing_of, Are
 use crate::depth::{depths, line_at};
 use crate::facts::BodyFacts;
 use crate::fault::depth_fault;
+use crate::known::{Known, seek_operands};
 use crate::laws::verdicts_are_one;
 use crate::line::{Line, lines};
 use crate::rules::type_rule;
@@ -22,7 +23,7 @@ use std::alloc::{AllocError, Global};
 /// The first rule on types that fails at a place.
 fn rule_at<P: Parents>(
     alloc: Global,
-    parents: &P,
+    parents: &mut Known<'_, P>,
     lines: &[Option<Line>],
     typing: &Typing,
     mixed: &[bool],
@@ -31,7 +32,8 @@ fn rule_at<P: Parents>(
     requires within { at < length typing.now.stacks.items }
     requires ids { AreIds typing.now.pool typing.now.stacks.items }
     requires mixed { mixed.now ≡ map (list_any is_none) typing.now.pool }
-    ensures { IfOk result (IsRuleAt (P.family parents.now) (line_at lines.now at)
+    ensures same { parents.new ≡ parents.old }
+    ensures rule { IfOk result (IsRuleAt (P.family parents.old) (line_at lines.now at)
         (stack_at (stacks_by typing.now.pool typing.now.stacks.items) at)) }
 {
     let Some(line) = line_at(lines, at) else {
@@ -40,6 +42,7 @@ fn rule_at<P: Parents>(
     let Some(id) = typing.stacks[at] else {
         return Ok(None);
     };
+    seek_operands(alloc, parents, &line.effect.operands, &typing.pool, id)?;
     type_rule(alloc, parents, line, &typing.pool, id, mixed[id])
 }
 
@@ -58,8 +61,9 @@ fn type_fault<P: Parents>(
         (typing_of (stacks_by typing.now.pool typing.now.stacks.items)) fault) }
 {
     let mixed = typing.pool.mixed(alloc)?;
+    let mut known = Known::new(alloc, parents);
     for at in 0..lines.len() {
-        if let Some(rule) = rule_at(alloc, parents, lines, typing, &mixed, at)? {
+        if let Some(rule) = rule_at(alloc, &mut known, lines, typing, &mixed, at)? {
             return Ok(Some((at, rule)));
         }
     }

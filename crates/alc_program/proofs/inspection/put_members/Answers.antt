@@ -17,5 +17,5 @@ pub returns : goal.returns
 returns g c =
     let count : c.loop-n.n - c.members-rows.result.start ≡ c.members-rows.result.end - c.members-rows.result.start = omega (arith, c.loop-n.invariant.within) in
     let text = member_text (module_of c.args.image.now) c.args.member in
-    let rows = listed_members (module_of c.args.image.now) c.args.member c.args.row c.members-rows.result c.members-rows.ensures in
+    let rows = listed_members (module_of c.args.image.now) c.args.member c.args.row c.members-rows.result c.members-rows.ensures.value in
     puts_as (ap (λ n. flat_map text (range_with_len c.members-rows.result.start n)) count ∙ ap (flat_map text) (sym rows)) c.loop-n.invariant.put

@@ -5,8 +5,8 @@ use Rattle.il_verifier.proofs.Order.{IsMerging}
 use Rattle.il_verifier.proofs.Ways.{joined-self}
 use Rattle.il_verifier.proofs.joins.join_held.Goals as goal
 
-pub returns-then-is_same_held : goal.returns-then-is_same_held
-returns-then-is_same_held g c =
+pub returns-then-is_same_held-clause-held : goal.returns-then-is_same_held-clause-held
+returns-then-is_same_held-clause-held g c =
     let family = g.P.Parents.family c.args.parents.now in
     let lawful = g.met.P.Parents.lawful c.args.parents.now in
     let merging : IsMerging family = record {

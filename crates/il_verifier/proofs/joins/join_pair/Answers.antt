@@ -14,5 +14,5 @@ ascend-requires-clause-low g c =
       least = c.merging_is_least.ensures.least family lawful;
     } in
     let low = c.in_ok-descent.descent.low in
-    known-join family merging c.args.pool.now c.args.joins.now low.pair low.both c.in_ok-descent.ensures.even c.requires.joins
+    known-join family merging c.args.pool.now c.args.joins.now.joins low.pair low.both c.in_ok-descent.ensures.even c.requires.joins.joins
     c.in_ok-descent.ensures.known

@@ -27,7 +27,7 @@ returns-then-is_same_top-clause-join g c =
     can-raise family pool c.args.pair c.args.low own.below after.below own.held after.held c.requires.step c.requires.low
     c.in-Some.ensures c.in-Some-top.ensures in
     let same = c.is_same_top.ensures.yes c.if-is_same_top.true in
-    raise-own family pool c.args.pair own.held after.held c.args.low can same.0 (sym c.in_ok-held.ensures ∙ same.1)
+    raise-own family pool c.args.pair own.held after.held c.args.low can same.0 (sym c.in_ok-held.ensures.held ∙ same.1)
 
 pub returns-then-is_same_top-2-clause-join : goal.returns-then-is_same_top-2-clause-join
 returns-then-is_same_top-2-clause-join g c =
@@ -41,8 +41,8 @@ returns-then-is_same_top-2-clause-join g c =
     let apart = c.is_same_top.ensures.no (was-not c.is_same_top.result c.if-is_same_top.false) in
     let same = c.is_same_top-2.ensures.yes c.if-is_same_top-2.true in
     raise-after family pool c.args.pair own.held after.held c.args.low can
-    (other-held c.args.low.both c.args.low.pair.own c.in_ok-held.held own.held (joined family own.held after.held) c.in_ok-held.ensures apart)
-    same.0 (sym c.in_ok-held.ensures ∙ same.1)
+    (other-held c.args.low.both c.args.low.pair.own c.in_ok-held.held own.held (joined family own.held after.held) c.in_ok-held.ensures.held apart)
+    same.0 (sym c.in_ok-held.ensures.held ∙ same.1)
 
 pub returns-clause-join : goal.returns-clause-join
 returns-clause-join g c =
@@ -55,5 +55,5 @@ returns-clause-join g c =
     c.in-Some.ensures c.in-Some-top.ensures in
     let apart = c.is_same_top.ensures.no (was-not c.is_same_top.result c.if-is_same_top.false) in
     raise-new family pool c.push.new.self c.args.pair own.held after.held c.in_ok-held.held c.args.low c.in_ok-both.both can
-    (other-held c.args.low.both c.args.low.pair.own c.in_ok-held.held own.held (joined family own.held after.held) c.in_ok-held.ensures apart)
-    c.in_ok-held.ensures c.in_ok-both.ensures
+    (other-held c.args.low.both c.args.low.pair.own c.in_ok-held.held own.held (joined family own.held after.held) c.in_ok-held.ensures.held apart)
+    c.in_ok-held.ensures.held c.in_ok-both.ensures

@@ -1,9 +1,14 @@
-use Rattle.std.proofs.Common.{ℕ, [], ◌∷◌, List, sym, subst}
+use Rattle.std.proofs.Common.{ℕ, [], ◌∷◌, List, Contains, sym, subst, arith}
+use Rattle.il_flow.specs.Merging.{Held}
+use Rattle.il_verifier.specs.declared.pairs.Entry.{Entry}
 use Rattle.il_verifier.specs.Worklist.{stacks_by, AreIds, AreSought}
 use Rattle.il_verifier.proofs.Pools.{Pool}
 use Rattle.il_verifier.proofs.Reaching.{some-line}
 use Rattle.il_verifier.proofs.Turns.{taken-sought, all-placed, all-least, first-ids, first-sought}
 use Rattle.il_verifier.proofs.typing.least_typing.Goals as goal
+
+in-none : (entry : Entry Held) → Contains [] entry → ⊥
+in-none entry there = omega (arith, there.1)
 
 pub begin-requires : goal.begin-requires
 begin-requires g c = some-line c.args.max c.args.lines.now c.requires.clear
@@ -16,7 +21,10 @@ turns-init g c =
     record {
       sound = record {
         numbered = subst (λ (pool : Pool). AreIds pool search.stacks.items) (sym begun.pool) (first-ids search.stacks.items begun.stacks);
-        noted = λ join there. absurd (begun.joins join there);
+        noted = record {
+          joins = λ join there. absurd (begun.joins join there);
+          merges = λ entry there. absurd (in-none entry (subst (λ (es : List (Entry Held)). Contains es entry) begun.merges there));
+        };
       };
       sought = subst (λ (pool : Pool). AreSought family c.args.max c.args.lines.now (stacks_by pool search.stacks.items) search.todo)
           (sym begun.pool)

@@ -3,8 +3,7 @@ use Rattle.std.proofs.lemmas.List.{get_or_read}
 use Rattle.il_flow.specs.Families.{Family}
 use Rattle.il_flow.specs.Merging.{Held}
 use Rattle.il_verifier.specs.declared.joins.Pair.{Pair}
-use Rattle.il_verifier.specs.declared.joins.Join.{Join}
-use Rattle.il_verifier.specs.Pools.{stack_by, AreJoins}
+use Rattle.il_verifier.specs.Pools.{stack_by, Noted, AreNoted}
 use Rattle.il_verifier.specs.Worklist.{Stacks, stacks_by, AreIds, IsSound, HasMet}
 use Rattle.il_verifier.proofs.Oks.{on-ok, on-then}
 use Rattle.il_verifier.proofs.Pools.{Pool}
@@ -12,12 +11,12 @@ use Rattle.il_verifier.proofs.Turns.{ids-grow, ids-set, met-new, met-same, met-o
 use Rattle.il_verifier.proofs.typing.meet.Goals as goal
 
 -- what was set, in a value whose fields are known by equations
-sound-as : (family : Family) (pool new-pool : Pool) (joins new-joins : List (Option Join)) (ids new-ids : List (Option ℕ)) →
-    new-pool ≡ pool → new-joins ≡ joins → new-ids ≡ ids → AreIds pool ids → AreJoins family pool joins →
+sound-as : (family : Family) (pool new-pool : Pool) (joins new-joins : Noted) (ids new-ids : List (Option ℕ)) →
+    new-pool ≡ pool → new-joins ≡ joins → new-ids ≡ ids → AreIds pool ids → AreNoted family pool joins →
     IsSound family new-pool new-joins new-ids
 sound-as family pool new-pool joins new-joins ids new-ids p j i numbered noted =
     subst (λ (x : Pool). IsSound family x new-joins new-ids) (sym p)
-    (subst (λ (x : List (Option Join)). IsSound family pool x new-ids) (sym j)
+    (subst (λ (x : Noted). IsSound family pool x new-ids) (sym j)
     (subst (λ (x : List (Option ℕ)). IsSound family pool joins x) (sym i)
     (record { numbered = numbered; noted = noted })))
 

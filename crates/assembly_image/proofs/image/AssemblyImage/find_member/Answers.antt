@@ -12,8 +12,8 @@ returns-then-spells c =
     let m = module_of c.args.self.now in
     let n = c.loop-n.n in
     let range = member_range m c.args.kind c.args.row in
-    let first : c.members-rows.result.start ≡ range.start = ap (λ (r : Range ℕ). r.start) c.members-rows.ensures in
-    let end : c.members-rows.result.end ≡ range.end = ap (λ (r : Range ℕ). r.end) c.members-rows.ensures in
+    let first : c.members-rows.result.start ≡ range.start = ap (λ (r : Range ℕ). r.start) c.members-rows.ensures.value in
+    let end : c.members-rows.result.end ≡ range.end = ap (λ (r : Range ℕ). r.end) c.members-rows.ensures.value in
     let named : bytes_eq (member_name m c.args.kind n) c.args.name.now ≡ true =
     ap (λ (table : ℕ). bytes_eq (text m table n (name_of_kind c.args.kind)) c.args.name.now) (sym c.table.ensures)
     ∙ ap (λ (k : ℕ). bytes_eq (text m c.table.result n k) c.args.name.now) (sym c.name.ensures)
@@ -26,6 +26,6 @@ pub returns : goal.returns
 returns c =
     let m = module_of c.args.self.now in
     let range = member_range m c.args.kind c.args.row in
-    let end : c.members-rows.result.end ≡ range.end = ap (λ (r : Range ℕ). r.end) c.members-rows.ensures in
+    let end : c.members-rows.result.end ≡ range.end = ap (λ (r : Range ℕ). r.end) c.members-rows.ensures.value in
     sym (member_none m c.args.kind c.args.row c.args.from c.args.name.now range.start range.end
     (rows_are m c.args.kind c.args.row) c.loop-n.n (omega arith) c.loop-n.invariant)

@@ -38,7 +38,7 @@ returns-then-low-eq0 c =
           (λ h. absurd (omega (arith, h, w.if-low-eq0.true))) past)
       | then-low-eq0-via-else-low-eq0+then-list_end-n w ↦
           sym (has_no_member held m reads kind n low most c.loop-low.invariant.before
-          (λ _. subst (λ (e : ℕ). e ≤ n) w.list_end.ensures w.if-list_end-n.true) past)
+          (λ _. subst (λ (e : ℕ). e ≤ n) w.list_end.ensures.value w.if-list_end-n.true) past)
     ]
 
 pub returns : goal.returns
@@ -54,4 +54,4 @@ returns c =
     let most : low ≤ count m tables.type_def = subst (λ (h : ℕ). h ≤ count m tables.type_def) same c.loop-low.invariant.most in
     let some = c.if-low-eq0.false in
     sym (has_member held m reads kind n low (omega (arith, some)) most (c.loop-low.invariant.before (omega (arith, some)))
-    (subst (λ (e : ℕ). n < e) c.list_end.ensures c.if-list_end-n.false))
+    (subst (λ (e : ℕ). n < e) c.list_end.ensures.value c.if-list_end-n.false))
